@@ -1,0 +1,6 @@
+//! Records.
+#![tactic(auto)]
+
+mod record;
+
+pub use record::{NodeMark, Record, SettleDone};

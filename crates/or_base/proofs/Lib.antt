@@ -1,0 +1,5 @@
+pub mod Ordered
+pub mod Members
+pub mod Offers
+pub mod AnyOrder
+pub mod Keys

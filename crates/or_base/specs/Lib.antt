@@ -1,0 +1,5 @@
+pub mod Order
+pub mod Limits
+pub mod Journal
+pub mod Law
+pub mod Stream

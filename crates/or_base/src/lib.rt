@@ -1,0 +1,56 @@
+//! The types that every layer shares, and the meaning of a store.
+//!
+//! A store is its journal: the list of what was merged, what expired and when the store was cleared. What it
+//! holds under a key is read from the journal's end (`holds`), and an offered pair is merged exactly where it is
+//! within the limits and exceeds what is held (`offer`). Both are defined in `specs/Journal.antt`, the order of
+//! values in `specs/Order.antt`, the limits in `specs/Limits.antt`. The promise that every later theorem on stores
+//! stands on is `offers_hold_greatest`: after any list of offers a store holds the greatest value offered, so any
+//! order of the same offers leaves the same values.
+//!
+//! The files: `memory` (the one free error, and copies that may meet it), `text` and `seq` (newtypes that contracts
+//! see as lists), `value`, `entry`, `item` (plain data that contracts see as it is), `journal` (the plain bodies of
+//! the journal's definitions), `limits`, and the streams: `stream` (the traits), `memory_stream` (fakes that fail on
+//! request), `real_stream` (the trusted edge). No type here keeps a limit: `limits` tests them.
+#![tactic(auto)]
+
+ghost use Rattle.or_base.specs.Law.{HoldsGreatest, LeavesSameInAnyOrder};
+
+mod entry;
+mod held;
+mod item;
+mod journal;
+mod kind;
+mod limits;
+mod memory;
+mod memory_stream;
+mod message;
+mod origin;
+mod real_stream;
+mod seq;
+mod stream;
+mod text;
+mod value;
+
+pub use entry::JournalEntry;
+pub use held::Held;
+pub use item::{Item, Stamped, TurnDone};
+pub use journal::{held_keys, held_under};
+pub use kind::Kind;
+pub use limits::{is_key, is_node_name, is_valid_pair};
+pub use memory::{Copied, NoMemory};
+pub use memory_stream::{MemSink, MemSource, SINK_BYTES};
+pub use message::Msg;
+pub use origin::Origin;
+pub use real_stream::{RealSink, RealSource};
+pub use seq::{Seq, copied_items};
+pub use stream::{ReadFault, Sink, Source, WriteFault};
+pub use text::{Bytes, Key, Name};
+pub use value::{KvValue, Pair};
+
+/// The law of offers. After a list of offers, what is held under a key is the greatest of what was held and of
+/// the valid values that were offered under it; lists with the same offers, in any order and any number of times
+/// each, leave values that are the same but for their lifetime.
+pub fn offers_hold_greatest()
+    ensures greatest { HoldsGreatest }
+    ensures any_order { LeavesSameInAnyOrder }
+{}

@@ -1,0 +1,146 @@
+ghost use Rattle.std.specs.Prelude.{◌≡◌, IfOk, string_bytes};
+
+use crate::memory::{Copied, NoMemory};
+use std::marker::Model;
+
+/// The name of a node or of an interface: text that contracts see as its bytes.
+#[derive(Drop)]
+pub struct Name {
+    text: String,
+}
+
+impl Model for Name {
+    ghost use Rattle.std.specs.Prelude.{ℕ, List, string_bytes};
+
+    ghost Value = { List ℕ };
+
+    ghost view = { λ name. string_bytes name.text };
+}
+
+impl Name {
+    /// It takes no memory, and keeps no limit.
+    pub fn from_string(text: String) -> Self
+        ensures { result ≡ string_bytes text }
+    {
+        Name { text }
+    }
+
+    /// The text.
+    pub fn as_str(&self) -> &str
+        ensures { result.now ≡ self.now }
+    {
+        self.text.as_str()
+    }
+
+    /// An equal name.
+    pub fn copied(&self) -> Result<Self, NoMemory>
+        ensures { IfOk result (λ copy. copy ≡ self.now) }
+    {
+        Ok(Name {
+            text: self.text.clone()?,
+        })
+    }
+}
+
+impl Copied for Name {
+    fn copied(&self) -> Result<Self, NoMemory> {
+        Name::copied(self)
+    }
+}
+
+/// The key of a value: text that contracts see as its bytes.
+#[derive(Drop)]
+pub struct Key {
+    text: String,
+}
+
+impl Model for Key {
+    ghost use Rattle.std.specs.Prelude.{ℕ, List, string_bytes};
+
+    ghost Value = { List ℕ };
+
+    ghost view = { λ key. string_bytes key.text };
+}
+
+impl Key {
+    /// It takes no memory, and keeps no limit.
+    pub fn from_string(text: String) -> Self
+        ensures { result ≡ string_bytes text }
+    {
+        Key { text }
+    }
+
+    /// The text.
+    pub fn as_str(&self) -> &str
+        ensures { result.now ≡ self.now }
+    {
+        self.text.as_str()
+    }
+
+    /// An equal key.
+    pub fn copied(&self) -> Result<Self, NoMemory>
+        ensures { IfOk result (λ copy. copy ≡ self.now) }
+    {
+        Ok(Key {
+            text: self.text.clone()?,
+        })
+    }
+}
+
+impl Copied for Key {
+    fn copied(&self) -> Result<Self, NoMemory> {
+        Key::copied(self)
+    }
+}
+
+/// Bytes of any content.
+#[derive(Drop)]
+pub struct Bytes {
+    bytes: Vec<u8>,
+}
+
+impl Model for Bytes {
+    ghost use Rattle.std.specs.Prelude.{ℕ, List};
+
+    ghost Value = { List ℕ };
+
+    ghost view = { λ all. all.bytes.items };
+}
+
+impl Bytes {
+    /// It takes no memory.
+    pub fn from_vec(v: Vec<u8>) -> Bytes
+        ensures { result ≡ v.items }
+    {
+        Bytes { bytes: v }
+    }
+
+    /// The bytes, in order.
+    pub fn as_slice(&self) -> &[u8]
+        ensures { result.now ≡ self.now }
+    {
+        self.bytes.as_slice()
+    }
+
+    /// The vector of the bytes. It takes no memory.
+    pub fn into_vec(self) -> Vec<u8>
+        ensures { result.items ≡ self }
+    {
+        self.bytes
+    }
+
+    /// Equal bytes.
+    pub fn copied(&self) -> Result<Self, NoMemory>
+        ensures { IfOk result (λ copy. copy ≡ self.now) }
+    {
+        Ok(Bytes {
+            bytes: self.bytes.clone()?,
+        })
+    }
+}
+
+impl Copied for Bytes {
+    fn copied(&self) -> Result<Self, NoMemory> {
+        Bytes::copied(self)
+    }
+}
