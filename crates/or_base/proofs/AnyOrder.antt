@@ -1,13 +1,12 @@
 -- Offers in any order leave the same values: the greatest of the same values is the same.
-use Rattle.std.proofs.Common.{◌≡◌, ℕ, List, [], ◌∷◌, ◌++◌, Bool, true, false, cond, Option, Some, None, refl, sym, ◌∙◌, ap, subst, ◌⊎◌, inl, inr, arith}
+use Rattle.std.proofs.Common.{◌≡◌, ℕ, List, [], ◌∷◌, ◌++◌, Bool, true, false, cond, Option, Some, None, refl, ap, subst, ◌⊎◌, inl, inr, arith}
 use Rattle.std.specs.Option.{option_to_list}
 use Rattle.std.specs.List.{Contains, AllByRecursion}
 use Rattle.std.proofs.lemmas.List.Elements.{Contains-append_cases, Contains-append_left, Contains-append_right, All-from_recursion, All-contains}
 use Rattle.or_base.specs.declared.value.KvValue.{KvValue}
-use Rattle.or_base.specs.declared.entry.JournalEntry.{JournalEntry}
 use Rattle.or_base.specs.Order.{is_below}
 use Rattle.or_base.specs.Journal.{held_value}
-use Rattle.or_base.specs.Law.{Offer, after_offers, is_for, offered_values, IsGreatestOf, AreSame, HaveSameOffers, LeavesSameInAnyOrder}
+use Rattle.or_base.specs.Law.{Offer, after_offers, is_for, offered_values, IsGreatestOf, AreSame, LeavesSameInAnyOrder}
 use Rattle.or_base.proofs.Ordered.{same_from_neither}
 use Rattle.or_base.proofs.Members.{Contains-first, Contains-later, Contains-cases}
 use Rattle.or_base.proofs.Offers.{holds_greatest}

@@ -12,7 +12,7 @@ use Rattle.or_base.specs.declared.entry.JournalEntry.TheVariants.{Merged}
 use Rattle.or_base.specs.Order.{is_below}
 use Rattle.or_base.specs.Limits.{is_valid_pair}
 use Rattle.or_base.specs.Journal.{latest, holds, held_value, exceeds, is_taken, offer}
-use Rattle.or_base.specs.Law.{Offer, after_offers, is_for, offered_values, IsGreatestOf, HoldsGreatest}
+use Rattle.or_base.specs.Law.{after_offers, is_for, offered_values, IsGreatestOf, HoldsGreatest}
 use Rattle.or_base.proofs.Ordered.{not_below_trans, below_not_above, not_below_itself}
 use Rattle.or_base.proofs.Members.{Contains-first, Contains-later, Contains-second}
 
