@@ -1,0 +1,66 @@
+//! A table of values, one under each key, whose journal is all that it keeps.
+//!
+//! A store offers it pairs and looks values up. An offer is merged exactly where the pair is within the limits and
+//! its value exceeds what is held under its key (`offer`, defined in or_base); every merge is an entry at the end of
+//! the journal, with its moment and its origin, and nothing else changes the table. Contracts see the table as its
+//! journal, so what they say of it stays true of any faster table. This is the plain body: a look-up scans the
+//! journal from its end (or_base's `held_under`), so its time is linear in the journal's length. The promise is
+//! that `get` is `holds` and `offer` is `offer` of or_base, to the entry; the law that the greatest value offered is
+//! held follows from or_base's `offers_hold_greatest`.
+//!
+//! The files: `offered` (what becomes of an offer), `table`.
+#![tactic(auto)]
+
+mod offered;
+mod table;
+
+pub use offered::Offered;
+pub use or_base::Held;
+pub use table::KvTable;
+
+#[cfg(test)]
+mod tests {
+    use super::*;
+    use or_base::{Bytes, Key, KvValue, Name, Origin, Pair};
+    use std::alloc::Global;
+    use std::test::Fail;
+
+    /// A pair of version 1 by the originator `a`.
+    fn pair(alloc: Global, key: &str, bytes: &[u8], ttl_version: u64) -> Result<Pair, Fail> {
+        Ok(Pair {
+            key: Key::from_string(String::from_str(alloc, key)?),
+            value: KvValue {
+                version: 1,
+                originator: Name::from_string(String::from_str(alloc, "a")?),
+                value: Bytes::from_vec(bytes.to_vec(alloc)?),
+                ttl: None,
+                ttl_version,
+            },
+        })
+    }
+
+    #[test]
+    fn the_greatest_value_offered_is_held(rt: HostRuntime) -> Result<(), Fail> {
+        let alloc = rt.alloc();
+        let mut table = KvTable::new(alloc)?;
+        let offers: [(u64, &str, &[u8], u64, Offered); 5] = [
+            (10, "x", &[1], 0, Offered::Changed),
+            (11, "x", &[1, 0], 0, Offered::Changed),
+            (12, "x", &[1, 0], 1, Offered::Changed),
+            (13, "x", &[1], 9, Offered::Kept),
+            (14, "", &[1], 0, Offered::Invalid),
+        ];
+        for (now, key, bytes, ttl_version, want) in offers {
+            let offered = table.offer(pair(alloc, key, bytes, ttl_version)?, now, Origin::Local)?;
+            assert_eq!(rt; offered, want, "at {now} ms");
+        }
+
+        let key = Key::from_string(String::from_str(alloc, "x")?);
+        let held = table.get(&key).ok_or("nothing is held")?;
+        assert_eq!(rt; held.value.value.as_slice(), [1u8, 0].as_slice());
+        assert_eq!(rt; held.value.ttl_version, 1);
+        assert_eq!(rt; held.merged_at, 12);
+        assert_eq!(rt; table.journal().len(), 3);
+        Ok(())
+    }
+}

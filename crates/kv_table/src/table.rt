@@ -1,0 +1,75 @@
+ghost use Rattle.std.specs.Prelude.{◌≡◌, [], IfOk, OnOk, OnErr};
+
+use crate::offered::Offered;
+use kv_value::compare;
+use or_base::{Held, JournalEntry, Key, NoMemory, Origin, Pair, held_under, is_valid_pair};
+use std::alloc::Global;
+use std::cmp::Ordering;
+use std::marker::Model;
+
+/// A table of values. Contracts see its journal.
+#[derive(Drop)]
+pub struct KvTable {
+    entries: Vec<JournalEntry>,
+}
+
+impl Model for KvTable {
+    ghost use Rattle.std.specs.Prelude.{List};
+    ghost use Rattle.or_base.specs.declared.entry.JournalEntry.{JournalEntry};
+
+    ghost Value = { List JournalEntry };
+
+    ghost view = { λ table. table.entries.items };
+}
+
+impl KvTable {
+    ghost use Rattle.std.specs.Option.{option_map};
+    ghost use Rattle.or_base.specs.Journal.{holds, offer};
+    ghost use Rattle.kv_table.specs.Offered.{offered_of};
+
+    /// A table that holds nothing.
+    pub fn new(alloc: Global) -> Result<KvTable, NoMemory>
+        ensures { IfOk result (λ table. table ≡ []) }
+    {
+        Ok(KvTable {
+            entries: Vec::new(alloc),
+        })
+    }
+
+    /// Every change of the table, from the oldest to the newest.
+    pub fn journal(&self) -> &[JournalEntry]
+        ensures { result.now ≡ self.now }
+    {
+        self.entries.as_slice()
+    }
+
+    /// What is held under the key. It takes no memory.
+    pub fn get(&self, key: &Key) -> Option<Held<'_>>
+        ensures { option_map (λ held. (held.value.now, held.merged_at)) result ≡ holds self.now key.now }
+    {
+        held_under(self.entries.as_slice(), key)
+    }
+
+    /// Merges the pair if it is within the limits and its value exceeds what is held under its key, and tells what
+    /// became of it. `now` is the moment in milliseconds. Where memory runs out the table stays as it was.
+    pub fn offer(&mut self, pair: Pair, now: u64, origin: Origin) -> Result<Offered, NoMemory>
+        ensures answer { IfOk result (λ offered. offered ≡ offered_of self.old pair) }
+        ensures ok { OnOk result (self.new ≡ offer self.old pair now origin) }
+        ensures err { OnErr result (self.new ≡ self.old) }
+    {
+        if !is_valid_pair(&pair) {
+            return Ok(Offered::Invalid);
+        }
+        if let Some(held) = self.get(&pair.key) {
+            if compare(held.value, &pair.value) != Ordering::Less {
+                return Ok(Offered::Kept);
+            }
+        }
+        self.entries.push(JournalEntry::Merged {
+            pair,
+            at: now,
+            origin,
+        })?;
+        Ok(Offered::Changed)
+    }
+}
