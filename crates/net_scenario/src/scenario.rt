@@ -1,3 +1,5 @@
+ghost use Rattle.std.specs.Prelude.{◌≡◌, ◌≤◌, length};
+
 use crate::command::Command;
 use crate::declared::{LinkDecl, NodeDecl};
 use or_base::{Kind, Seq};
@@ -21,4 +23,31 @@ impl Model for Scenario {
     ghost view = { λ s. record { kind = s.kind; nodes = s.nodes; links = s.links; commands = s.commands } };
 
     ghost invariant = { λ s. IsTrue (is_sound (record { kind = s.kind; nodes = s.nodes; links = s.links; commands = s.commands })) };
+}
+
+impl Scenario {
+    /// The nodes, in the order of their declarations: at most 64.
+    #[tactic(auto, unfolding(crate::specs::Scenario::is_sound))]
+    pub fn nodes(&self) -> &[NodeDecl]
+        ensures nodes { result.now ≡ self.now.nodes }
+        ensures few { length result.now ≤ 64 }
+    {
+        self.nodes.as_slice()
+    }
+
+    /// The links, in the order of their numbers: at most 256.
+    #[tactic(auto, unfolding(crate::specs::Scenario::is_sound))]
+    pub fn links(&self) -> &[LinkDecl]
+        ensures links { result.now ≡ self.now.links }
+        ensures few { length result.now ≤ 256 }
+    {
+        self.links.as_slice()
+    }
+
+    /// The commands, in order.
+    pub fn commands(&self) -> &[Command]
+        ensures { result.now ≡ self.now.commands }
+    {
+        self.commands.as_slice()
+    }
 }

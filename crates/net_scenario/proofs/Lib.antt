@@ -1,0 +1,2 @@
+pub mod FirstFormLemmas
+pub mod Ending
