@@ -1,0 +1,10 @@
+pub mod Roles
+pub mod Wires
+pub mod Phases
+pub mod World
+pub mod Rounds
+pub mod Run
+pub mod Records
+pub mod Small
+pub mod Wired
+pub mod Ends

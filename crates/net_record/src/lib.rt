@@ -1,6 +1,49 @@
-//! Records.
+//! What a run of a scenario is, and the record of one.
+//!
+//! A laboratory is actors joined by lanes. `specs/Roles.antt` numbers the actors, `specs/Wires.antt` the lanes: a lane
+//! joins a writer to a reader wherever the one has items for the other. `specs/World.antt` says what one turn does:
+//! the reader of a lane takes the front item, and what it sends is put on the lanes of its ports. A run is turns, one
+//! after another (`specs/Run.antt`); phases begin with the driver's items (`specs/Phases.antt`) and end at the first
+//! moment when no item waits. Round robin is the schedule that rounds give (`specs/Rounds.antt`), and
+//! `rounds_are_a_run` promises that it is a run like any other.
+//!
+//! All that depends on which modules there are stands here, and nothing above this layer names a single module:
+//! `part` (the module of an actor), `actor`, `role` and `numbering` (what the actors are), `wiring`, `phasing`,
+//! `record` (what was done) and `stores` (what a record tells of the stores).
 #![tactic(auto)]
 
-mod record;
+ghost use Rattle.net_record.specs.Run.{RoundsAreARun};
+ghost use Rattle.net_record.specs.Ends.{SettledRoundsEndDrained};
 
+mod actor;
+mod numbering;
+mod part;
+mod phase;
+mod phasing;
+mod record;
+mod role;
+mod stores;
+mod wire;
+mod wiring;
+
+pub use actor::{ActorState, Sent};
+pub use numbering::{MOST_ACTORS, roles};
+pub use part::Part;
+pub use phase::Phase;
+pub use phasing::phases;
 pub use record::{NodeMark, Record, SettleDone};
+pub use role::{NodeModule, Role};
+pub use stores::{journals_of, marks_of};
+pub use wire::Wire;
+pub use wiring::wires;
+
+/// Where round robin settles every phase of a laboratory, its world is that of the run under the schedule of its own
+/// turns.
+pub fn rounds_are_a_run()
+    ensures { RoundsAreARun }
+{}
+
+/// Where round robin settles every phase of a laboratory, no item waits at its end, and each phase has its settle.
+pub fn settled_rounds_end_drained()
+    ensures { SettledRoundsEndDrained }
+{}

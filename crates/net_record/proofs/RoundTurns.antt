@@ -1,0 +1,190 @@
+-- Rounds are turns of a run, one after another: within a round an item always waits, so no phase ends there.
+use Rattle.std.proofs.Common.{◌≡◌, ℕ, zero, suc, ◌+◌, ◌<◌, ◌≤◌, List, [], ◌∷◌, ◌++◌, Bool, true, false, length, map, get_or, drop, refl, sym, ◌∙◌, ap, arith, append_assoc, add-one}
+use Rattle.std.specs.List.{list_all}
+use Rattle.std.proofs.lemmas.Bool.{false≢true}
+use Rattle.or_base.specs.declared.item.Stamped.{Stamped}
+use Rattle.net_scenario.specs.declared.schedule.Turn.{Turn}
+use Rattle.net_record.specs.declared.phase.Phase.{Phase}
+use Rattle.net_record.specs.World.{WorldState, waiting, turn, is_empty, is_drained}
+use Rattle.net_record.specs.Rounds.{turns_on, round_from, round}
+use Rattle.net_record.specs.Run.{advance, is_legal, run_from, schedule_of}
+use Rattle.net_record.specs.Wired.{IsWired}
+use Rattle.net_record.proofs.Turns.{wired_turn, turn_keeps, turn_leaves, turn_scheduled}
+
+-- a turn of a lane
+abbrev pub turn_on : ℕ → Turn
+turn_on lane = record { lane = lane; at = 0 }
+
+-- so many turns of a lane, and then these
+abbrev pub then_turns_on : ℕ → ℕ → List Turn → List Turn
+then_turns_on lane zero later = later
+then_turns_on lane (suc count) later = turn_on lane ∷ then_turns_on lane count later
+
+-- so many turns of each lane, from this one on, and then these
+abbrev pub then_round : ℕ → List ℕ → List Turn → List Turn
+then_round lane [] later = later
+then_round lane (count ∷ counts) later = then_turns_on lane count (then_round (lane + 1) counts later)
+
+-- some count isn't 0
+abbrev pub some_left : List ℕ → Bool
+some_left [] = false
+some_left (zero ∷ counts) = some_left counts
+some_left (suc count ∷ counts) = true
+
+-- on each lane, from this one on, at least so many items wait
+abbrev pub Backed : WorldState → ℕ → List ℕ → Type 0
+Backed w lane [] = Unit {0}
+Backed w lane (count ∷ counts) = (count ≤ length (waiting w lane)) × Backed w (lane + 1) counts
+
+pub Backed-kept : (w v : WorldState) (lane : ℕ) (counts : List ℕ) → ((other : ℕ) → lane ≤ other → length (waiting w other) ≤ length (waiting v other)) → Backed w lane counts → Backed v lane counts
+Backed-kept w v lane [] keeps h = tt
+Backed-kept w v lane (count ∷ counts) keeps h =
+    let here : length (waiting w lane) ≤ length (waiting v lane) = keeps lane (omega arith) in
+    (omega (arith, h.0, here), Backed-kept w v (lane + 1) counts (λ other above. keeps other (omega arith)) h.1)
+
+-- a lane on which an item waits
+list_all-waits : (lanes : List (List Stamped)) (lane : ℕ) → 0 < length (get_or lanes lane []) → list_all is_empty lanes ≡ false
+list_all-waits [] lane h = absurd (omega (arith, h))
+list_all-waits ([] ∷ lanes) zero h = absurd (omega (arith, h))
+list_all-waits ((s ∷ others) ∷ lanes) zero h = refl
+list_all-waits ([] ∷ lanes) (suc lane) h = list_all-waits lanes lane h
+list_all-waits ((s ∷ others) ∷ lanes) (suc lane) h = refl
+
+pub not_drained : (w : WorldState) (lane : ℕ) (counts : List ℕ) → Backed w lane counts → some_left counts ≡ true → is_drained w ≡ false
+not_drained w lane [] h some = absurd (false≢true some)
+not_drained w lane (zero ∷ counts) h some = not_drained w (lane + 1) counts h.1 some
+not_drained w lane (suc count ∷ counts) h some = list_all-waits w.lanes lane (omega (arith, h.0))
+
+-- a phase goes on while an item waits
+pub advance-waits : (w : WorldState) (phase : Phase) (phases : List Phase) → is_drained w ≡ false → advance w (phase ∷ phases) ≡ record { world = w; unsettled = phase ∷ phases }
+advance-waits w phase phases e = rw e refl
+
+-- nothing is left to do
+round_from-none : (w : WorldState) (lane : ℕ) (counts : List ℕ) → some_left counts ≡ false → round_from w lane counts ≡ w
+round_from-none w lane [] none = refl
+round_from-none w lane (zero ∷ counts) none = round_from-none w (lane + 1) counts none
+round_from-none w lane (suc count ∷ counts) none = cc
+
+then_round-none : (lane : ℕ) (counts : List ℕ) (later : List Turn) → some_left counts ≡ false → then_round lane counts later ≡ later
+then_round-none lane [] later none = refl
+then_round-none lane (zero ∷ counts) later none = then_round-none (lane + 1) counts later none
+then_round-none lane (suc count ∷ counts) later none = cc
+
+-- the front item of a lane on which an item waits
+pub record Front (w : WorldState) (lane : ℕ) : Type 0 where
+  pub item : Stamped
+  pub others : List Stamped
+  pub is : waiting w lane ≡ item ∷ others
+
+front_of : (items : List Stamped) → 0 < length items → (s : Stamped) × (others : List Stamped) × (items ≡ s ∷ others)
+front_of [] h = absurd (omega (arith, h))
+front_of (s ∷ others) h = (s, others, refl)
+
+pub front : (w : WorldState) (lane : ℕ) → 0 < length (waiting w lane) → Front w lane
+front w lane h = let f = front_of (waiting w lane) h in record { item = f.0; others = f.1; is = f.2 }
+
+legal : (w : WorldState) (lane : ℕ) → Front w lane → is_legal w (turn_on lane) ≡ true
+legal w lane f = rw f.is refl
+
+-- one turn of a run
+pub run_from-turn : (w : WorldState) (phase : Phase) (phases : List Phase) (lane : ℕ) (later : List Turn) → Front w lane
+    → run_from (record { world = w; unsettled = phase ∷ phases }) (turn_on lane ∷ later) ≡ run_from (advance (turn w lane 0) (phase ∷ phases)) later
+run_from-turn w phase phases lane later f = rw (legal w lane f) refl
+
+Backed-turn : (w : WorldState) (lane count : ℕ) (counts : List ℕ) → IsWired w → Front w lane → Backed w lane (suc count ∷ counts) → Backed (turn w lane 0) lane (count ∷ counts)
+Backed-turn w lane count counts wired f h = (
+  omega (arith, h.0, turn_leaves w lane 0 f.item f.others wired f.is, ap length f.is),
+  Backed-kept w (turn w lane 0) (lane + 1) counts (λ other above. turn_keeps w lane 0 f.item f.others wired f.is other (omega arith)) h.1,
+)
+
+-- what is left of a round, as turns of a run in which the first of these phases isn't settled
+abbrev RunsRound : List ℕ → Type 0
+RunsRound counts =
+    (w : WorldState) (lane : ℕ) (phase : Phase) (phases : List Phase) (later : List Turn) → IsWired w → Backed w lane counts → some_left counts ≡ true
+    → run_from (record { world = w; unsettled = phase ∷ phases }) (then_round lane counts later) ≡ run_from (advance (round_from w lane counts) (phase ∷ phases)) later
+
+after_one : (v : WorldState) (lane count : ℕ) (counts : List ℕ) (phase : Phase) (phases : List Phase) (later : List Turn) (left : Bool) → some_left (count ∷ counts) ≡ left → Backed v lane (count ∷ counts)
+    → (some_left (count ∷ counts) ≡ true → run_from (record { world = v; unsettled = phase ∷ phases }) (then_round lane (count ∷ counts) later) ≡ run_from (advance (round_from v lane (count ∷ counts)) (phase ∷ phases)) later)
+    → run_from (advance v (phase ∷ phases)) (then_round lane (count ∷ counts) later) ≡ run_from (advance (round_from v lane (count ∷ counts)) (phase ∷ phases)) later
+after_one v lane count counts phase phases later true some backed goes_on =
+    ap (λ p. run_from p (then_round lane (count ∷ counts) later)) (advance-waits v phase phases (not_drained v lane (count ∷ counts) backed some)) ∙ goes_on some
+after_one v lane count counts phase phases later false none backed goes_on =
+    ap (run_from (advance v (phase ∷ phases))) (then_round-none lane (count ∷ counts) later none)
+    ∙ ap (λ u. run_from (advance u (phase ∷ phases)) later) (sym (round_from-none v lane (count ∷ counts) none))
+
+one_lane : (counts : List ℕ) → RunsRound counts → (count : ℕ) → RunsRound (count ∷ counts)
+one_lane counts others zero w lane phase phases later wired backed some = others w (lane + 1) phase phases later wired backed.1 some
+one_lane counts others (suc count) w lane phase phases later wired backed some =
+    let f = front w lane (omega (arith, backed.0)) in
+    let v = turn w lane 0 in
+    let kept = Backed-turn w lane count counts wired f backed in
+    run_from-turn w phase phases lane (then_round lane (count ∷ counts) later) f
+    ∙ after_one v lane count counts phase phases later (some_left (count ∷ counts)) refl kept
+    (λ left. one_lane counts others count v lane phase phases later (wired_turn w lane 0 wired) kept left)
+
+pub runs_round : (counts : List ℕ) → RunsRound counts
+runs_round [] w lane phase phases later wired backed some = absurd (false≢true some)
+runs_round (count ∷ counts) w lane phase phases later wired backed some =
+    one_lane counts (runs_round counts) count w lane phase phases later wired backed some
+
+wired_turns_on : (w : WorldState) (lane count : ℕ) → IsWired w → IsWired (turns_on w lane count)
+wired_turns_on w lane zero wired = wired
+wired_turns_on w lane (suc count) wired = wired_turns_on (turn w lane 0) lane count (wired_turn w lane 0 wired)
+
+pub wired_round_from : (w : WorldState) (lane : ℕ) (counts : List ℕ) → IsWired w → IsWired (round_from w lane counts)
+wired_round_from w lane [] wired = wired
+wired_round_from w lane (count ∷ counts) wired = wired_round_from (turns_on w lane count) (lane + 1) counts (wired_turns_on w lane count wired)
+
+-- the turns of what is left of a round are in the schedule
+abbrev SchedulesRound : List ℕ → Type 0
+SchedulesRound counts =
+    (w : WorldState) (lane : ℕ) (later : List Turn) → IsWired w → Backed w lane counts
+    → schedule_of (round_from w lane counts).turns ++ later ≡ schedule_of w.turns ++ then_round lane counts later
+
+schedules_lane : (counts : List ℕ) → SchedulesRound counts → (count : ℕ) → SchedulesRound (count ∷ counts)
+schedules_lane counts others zero w lane later wired backed = others w (lane + 1) later wired backed.1
+schedules_lane counts others (suc count) w lane later wired backed =
+    let f = front w lane (omega (arith, backed.0)) in
+    let v = turn w lane 0 in
+    schedules_lane counts others count v lane later (wired_turn w lane 0 wired) (Backed-turn w lane count counts wired f backed)
+    ∙ ap (λ ts. ts ++ then_round lane (count ∷ counts) later) (turn_scheduled w lane 0 f.item f.others wired f.is)
+    ∙ append_assoc (schedule_of w.turns) (turn_on lane ∷ []) (then_round lane (count ∷ counts) later)
+
+pub schedules_round : (counts : List ℕ) → SchedulesRound counts
+schedules_round [] w lane later wired backed = refl
+schedules_round (count ∷ counts) w lane later wired backed = schedules_lane counts (schedules_round counts) count w lane later wired backed
+
+at_drop : (lanes : List (List Stamped)) (lane : ℕ) (first : List Stamped) (rest : List (List Stamped)) → drop lane lanes ≡ first ∷ rest → (get_or lanes lane [] ≡ first) × (drop (suc lane) lanes ≡ rest)
+at_drop [] zero first rest e = cc
+at_drop [] (suc lane) first rest e = cc
+at_drop (l ∷ lanes) zero first rest e = (cc, cc)
+at_drop (l ∷ lanes) (suc lane) first rest e = at_drop lanes lane first rest e
+
+Backed-lanes : (w : WorldState) (lane : ℕ) (lanes : List (List Stamped)) → drop lane w.lanes ≡ lanes → Backed w lane (map length lanes)
+Backed-lanes w lane [] e = tt
+Backed-lanes w lane (first ∷ rest) e =
+    let at = at_drop w.lanes lane first rest e in (omega (arith, ap length at.0), Backed-lanes w (lane + 1) rest (ap (λ n. drop n w.lanes) (add-one lane) ∙ at.1))
+
+-- as a round begins, what is counted waits
+pub Backed-all : (w : WorldState) → Backed w 0 (map length w.lanes)
+Backed-all w = Backed-lanes w 0 w.lanes refl
+
+some_waits : (lanes : List (List Stamped)) → list_all is_empty lanes ≡ false → some_left (map length lanes) ≡ true
+some_waits [] e = absurd (false≢true (sym e))
+some_waits ([] ∷ lanes) e = some_waits lanes e
+some_waits ((s ∷ others) ∷ lanes) e = refl
+
+-- a round of a world in which an item waits
+pub round_runs : (w : WorldState) (phase : Phase) (phases : List Phase) (later : List Turn) → IsWired w → is_drained w ≡ false
+    → run_from (record { world = w; unsettled = phase ∷ phases }) (then_round 0 (map length w.lanes) later) ≡ run_from (advance (round w) (phase ∷ phases)) later
+unfolding round
+round_runs w phase phases later wired waits = runs_round (map length w.lanes) w 0 phase phases later wired (Backed-all w) (some_waits w.lanes waits)
+
+pub round_schedules : (w : WorldState) (later : List Turn) → IsWired w
+    → schedule_of (round w).turns ++ later ≡ schedule_of w.turns ++ then_round 0 (map length w.lanes) later
+unfolding round
+round_schedules w later wired = schedules_round (map length w.lanes) w 0 later wired (Backed-all w)
+
+pub wired_round : (w : WorldState) → IsWired w → IsWired (round w)
+unfolding round
+wired_round w wired = wired_round_from w 0 (map length w.lanes) wired

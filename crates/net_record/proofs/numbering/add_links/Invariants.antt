@@ -1,0 +1,13 @@
+use Rattle.std.proofs.Common.{◌≡◌, ◌+◌, ◌++◌, drop, vec_len}
+use Rattle.std.specs.Prelude.{All}
+use Rattle.net_record.specs.Roles.{link_roles}
+use Rattle.net_record.specs.Small.{HasSmallNumber}
+use Rattle.net_record.proofs.numbering.add_links.Given as goal
+
+-- the links so far and those that are left
+abbrev pub invariant-loop-number : goal.invariant-loop-number
+invariant-loop-number l = record {
+  added : l.all.items ++ link_roles l.number (drop l.number l.links) ≡ l.fn.all.items ++ link_roles 0 l.links;
+  len : vec_len l.all ≡ vec_len l.fn.all + l.number;
+  small : All HasSmallNumber l.fn.all.items → All HasSmallNumber l.all.items;
+}

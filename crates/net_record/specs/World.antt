@@ -1,0 +1,167 @@
+use Rattle.std.specs.Prelude.{ℕ, ◌+◌, max, List, [], ◌∷◌, ◌++◌, length, map, Option, Some, None, Bool, true, false, ◌&&◌, ◌==◌, if◌then◌else◌, slice_get, slice_set, slice_index_or, replicate}
+use Rattle.std.specs.List.{list_all, flat_map}
+use Rattle.or_base.specs.declared.item.Item.{Item}
+use Rattle.or_base.specs.declared.item.Stamped.{Stamped}
+use Rattle.or_base.specs.declared.item.TurnDone.{TurnDone}
+use Rattle.or_actor.specs.declared.output.Output.{Output}
+use Rattle.or_actor.specs.declared.output.Output.TheVariants.{To}
+use Rattle.kv_store.specs.Store.{new_store, store_step}
+use Rattle.net_link.specs.Link.{link_step}
+use Rattle.net_scenario.specs.Scenario.{Laboratory}
+use Rattle.net_record.specs.declared.role.NodeModule.TheVariants.{Store as StoreRole, Desk as DeskRole}
+use Rattle.net_record.specs.declared.role.Role.{Role}
+use Rattle.net_record.specs.declared.role.Role.TheVariants.{Driver as DriverRole, Node, Link as LinkRole}
+use Rattle.net_record.specs.declared.wire.Wire.{Wire}
+use Rattle.net_record.specs.declared.part.Part.{Part}
+use Rattle.net_record.specs.declared.part.Part.TheVariants.{Driver, Store, Desk, Link}
+use Rattle.net_record.specs.declared.actor.ActorState.{ActorState}
+use Rattle.net_record.specs.declared.record.NodeMark.{NodeMark}
+use Rattle.net_record.specs.declared.record.SettleDone.{SettleDone}
+use Rattle.net_record.specs.Roles.{roles}
+use Rattle.net_record.specs.Wires.{wires}
+
+-- The lanes and, for each, the items that wait on it, the oldest first; the actors; the turns and the settles done.
+-- A lane is an unbounded list.
+pub record WorldState : Type 0 where
+  pub wires : List Wire
+  pub lanes : List (List Stamped)
+  pub actors : List ActorState
+  pub turns : List TurnDone
+  pub settles : List SettleDone
+
+-- the module of an actor as it starts
+abbrev pub new_part : Role → Part
+new_part DriverRole = Driver
+new_part (Node StoreRole node) = Store (new_store node)
+new_part (Node DeskRole node) = Desk
+new_part (LinkRole link a b) = Link (record { link = link; a = a; b = b; is_up = false })
+
+abbrev pub new_actor : Role → ActorState
+new_actor role = record { part = new_part role; clock = 0 }
+
+-- the world of these actors before anything is done
+abbrev pub world_of : List Role → WorldState
+world_of all =
+    record { wires = wires all; lanes = replicate (length (wires all)) []; actors = map new_actor all; turns = []; settles = [] }
+
+-- the world of a laboratory before anything is done
+abbrev pub start : Laboratory → WorldState
+start lab = world_of (roles lab)
+
+-- one turn of an actor's module: its state after it, and what it sends; the driver and the desks do nothing
+unfoldable pub part_step : Part → Item → Part × List Output
+part_step Driver item = (Driver, [])
+part_step Desk item = (Desk, [])
+part_step (Store s) item = let after = store_step s item in (Store after.0, after.1)
+part_step (Link s) item = let after = link_step s item in (Link after.0, after.1)
+
+-- the stamp of an actor's turn with an item: one more than the greater of the item's stamp and the actor's clock
+abbrev pub next_stamp : ActorState → Stamped → ℕ
+next_stamp actor s = max s.stamp actor.clock + 1
+
+-- an actor after its turn with an item
+unfoldable pub actor_after : ActorState → Stamped → ActorState
+actor_after actor s = record { part = (part_step actor.part s.item).0; clock = next_stamp actor s }
+
+-- what an actor sends in its turn with an item
+unfoldable pub outputs_of : ActorState → Item → List Output
+outputs_of actor item = (part_step actor.part item).1
+
+-- the lane of a writer's port, if there is one, where the first of these lanes has the number given
+abbrev pub lane_from : ℕ → List Wire → ℕ → ℕ → Option ℕ
+lane_from number [] writer port = None
+lane_from number (wire ∷ wires) writer port =
+    if wire.writer == writer && wire.port == port then Some number else lane_from (number + 1) wires writer port
+
+-- the lanes after an item is put on one of them, or on none
+abbrev pub put : List (List Stamped) → Option ℕ → Stamped → List (List Stamped)
+put lanes None s = lanes
+put lanes (Some lane) s = slice_set lanes lane (slice_index_or lanes lane [] ++ s ∷ [])
+
+-- the lanes after a writer's outputs are put on the lanes of their ports, in order, each with this stamp
+abbrev pub delivered : List Wire → ℕ → ℕ → List (List Stamped) → List Output → List (List Stamped)
+delivered wires writer stamp lanes [] = lanes
+delivered wires writer stamp lanes (To port item ∷ outputs) =
+    delivered wires writer stamp (put lanes (lane_from 0 wires writer port) (record { stamp = stamp; item = item })) outputs
+
+-- the world after the turn of an actor with an item, which leaves these items on the lane
+unfoldable pub turn_of : WorldState → ℕ → ℕ → ℕ → Stamped → List Stamped → ActorState → WorldState
+turn_of w lane at reader s others actor =
+    record {
+      wires = w.wires;
+      lanes = delivered w.wires reader (next_stamp actor s) (slice_set w.lanes lane others) (outputs_of actor s.item);
+      actors = slice_set w.actors reader (actor_after actor s);
+      turns = w.turns ++ record { lane = lane; at = at; stamp = next_stamp actor s; item = s.item } ∷ [];
+      settles = w.settles;
+    }
+
+-- the same, where there may be no item or no actor: then nothing is done
+abbrev pub turn_by : WorldState → ℕ → ℕ → ℕ → List Stamped → Option ActorState → WorldState
+turn_by w lane at reader [] actor = w
+turn_by w lane at reader (s ∷ others) None = w
+turn_by w lane at reader (s ∷ others) (Some actor) = turn_of w lane at reader s others actor
+
+-- the reader of a lane
+abbrev pub reader_of : Option Wire → ℕ
+reader_of None = 0
+reader_of (Some wire) = wire.reader
+
+-- the items that wait on a lane
+abbrev pub waiting : WorldState → ℕ → List Stamped
+waiting w lane = slice_index_or w.lanes lane []
+
+-- The turn of a lane: its reader takes the front item, and what it sends is put on the lanes of its ports. A lane on
+-- which no item waits leaves the world as it is.
+unfoldable pub turn : WorldState → ℕ → ℕ → WorldState
+turn w lane at =
+    let reader = reader_of (slice_get w.wires lane) in
+    turn_by w lane at reader (waiting w lane) (slice_get w.actors reader)
+
+abbrev pub is_empty : List Stamped → Bool
+is_empty [] = true
+is_empty (s ∷ others) = false
+
+-- no item waits
+abbrev pub is_drained : WorldState → Bool
+is_drained w = list_all is_empty w.lanes
+
+-- the driver is the first actor
+abbrev pub driver_clock : List ActorState → ℕ
+driver_clock [] = 0
+driver_clock (driver ∷ others) = driver.clock
+
+-- a phase begins: the driver's items are put on its lanes, with the driver's clock as their stamp
+unfoldable pub issued : WorldState → List Output → WorldState
+issued w issues = record w { lanes = delivered w.wires 0 (driver_clock w.actors) w.lanes issues }
+
+abbrev pub greatest_clock : List ActorState → ℕ
+greatest_clock [] = 0
+greatest_clock (actor ∷ actors) = max actor.clock (greatest_clock actors)
+
+-- what a settle tells of an actor: of a store the length of its journal and its count of stale messages
+abbrev pub mark_of : Part → List NodeMark
+mark_of Driver = []
+mark_of Desk = []
+mark_of (Link s) = []
+mark_of (Store s) = record { entries = length s.journal; stale = s.stale } ∷ []
+
+abbrev pub marks_of : List ActorState → List NodeMark
+marks_of actors = flat_map (λ actor. mark_of actor.part) actors
+
+-- what a settle tells; no command sets a moment, so it is 0
+abbrev pub settle_done : WorldState → SettleDone
+settle_done w = record { turns = length w.turns; moment = 0; nodes = marks_of w.actors }
+
+abbrev pub with_clock : ℕ → ActorState → ActorState
+with_clock clock actor = record { part = actor.part; clock = clock }
+
+-- a phase ends: the settle is recorded, and every clock becomes one more than the greatest
+unfoldable pub settled : WorldState → WorldState
+settled w =
+    record {
+      wires = w.wires;
+      lanes = w.lanes;
+      actors = map (with_clock (greatest_clock w.actors + 1)) w.actors;
+      turns = w.turns;
+      settles = w.settles ++ settle_done w ∷ [];
+    }

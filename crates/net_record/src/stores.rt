@@ -1,0 +1,39 @@
+ghost use Rattle.std.specs.Prelude.{◌≡◌, IfOk};
+ghost use Rattle.net_record.specs.World.{marks_of};
+ghost use Rattle.net_record.specs.Records.{journals_of};
+
+use crate::actor::ActorState;
+use crate::part::Part;
+use crate::record::NodeMark;
+use or_base::{JournalEntry, NoMemory, Seq, copied_items};
+use std::alloc::Global;
+
+/// What a settle tells of the stores among the actors, in order.
+pub fn marks_of(alloc: Global, actors: &[ActorState]) -> Result<Vec<NodeMark>, NoMemory>
+    ensures { IfOk result (λ marks. marks.items ≡ marks_of actors.now) }
+{
+    let mut marks = Vec::new(alloc);
+    for actor in actors {
+        if let Part::Store(store) = &actor.part {
+            marks.push(NodeMark {
+                entries: store.table().journal().len() as u64,
+                stale: store.stale(),
+            })?;
+        }
+    }
+    Ok(marks)
+}
+
+/// Copies of the journals of the stores among the actors, in order.
+pub fn journals_of(alloc: Global, actors: &[ActorState]) -> Result<Vec<Seq<JournalEntry>>, NoMemory>
+    ensures { IfOk result (λ journals. journals.items ≡ journals_of actors.now) }
+{
+    let mut journals = Vec::new(alloc);
+    for actor in actors {
+        if let Part::Store(store) = &actor.part {
+            let journal = copied_items(alloc, store.table().journal())?;
+            journals.push(Seq::from_vec(journal))?;
+        }
+    }
+    Ok(journals)
+}
