@@ -1,0 +1,5 @@
+pub mod Staying
+pub mod Soundness
+pub mod Turning
+pub mod Rounding
+pub mod Recorded

@@ -1,0 +1,143 @@
+-- A world starts sound, and its turns, issues and settles keep it so.
+use Rattle.std.proofs.Common.{◌≡◌, ℕ, ◌+◌, ◌<◌, ◌≤◌, ◌^◌, List, [], ◌∷◌, length, map, get_or, set, replicate, refl, sym, ap, ◌∙◌, subst, arith, length-set}
+use Rattle.std.specs.Prelude.{All}
+use Rattle.std.proofs.lemmas.List.{length-map, length-replicate}
+use Rattle.std.proofs.lemmas.List.Elements.{All-nil, All-set, All-get_or, All-same, All-head, All-tail, All-weaker, All-replicate, All-map}
+use Rattle.or_base.specs.declared.item.Stamped.{Stamped}
+use Rattle.or_base.specs.declared.item.TurnDone.{TurnDone}
+use Rattle.net_record.specs.declared.role.Role.{Role}
+use Rattle.net_record.specs.declared.wire.Wire.{Wire}
+use Rattle.net_record.specs.declared.actor.ActorState.{ActorState}
+use Rattle.net_record.specs.declared.record.SettleDone.{SettleDone}
+use Rattle.net_record.specs.Wired.{IsReadBelow, IsWired}
+use Rattle.net_record.specs.World.{WorldState, new_actor, actor_after, next_stamp, driver_clock, greatest_clock, with_clock}
+use Rattle.net_world.specs.Sound.{IsSoundItem, IsSoundLane, IsClockedBelow, StaySound, IsSound, done_in}
+
+-- what is sound up to a bound is so up to a greater one
+pub lanes_weaker : (m n : ℕ) (lanes : List (List Stamped)) → m ≤ n → All (IsSoundLane m) lanes → All (IsSoundLane n) lanes
+lanes_weaker m n lanes h =
+    All-weaker (IsSoundLane m) (IsSoundLane n)
+    (λ items. All-weaker (IsSoundItem m) (IsSoundItem n) (λ s sound. (omega (arith, sound.0), sound.1)) items) lanes
+
+pub clocks_weaker : (m n : ℕ) (actors : List ActorState) → m ≤ n → All (IsClockedBelow m) actors → All (IsClockedBelow n) actors
+clocks_weaker m n actors h = All-weaker (IsClockedBelow m) (IsClockedBelow n) (λ actor below. omega (arith, below)) actors
+
+-- the items of one lane
+pub lane_sound : (most lane : ℕ) (lanes : List (List Stamped)) (front : List Stamped) → lane < length lanes → front ≡ get_or lanes lane front
+    → All (IsSoundLane most) lanes → All (IsSoundItem most) front
+lane_sound most lane lanes front within is all =
+    All-same (IsSoundItem most) front (get_or lanes lane front) is (All-get_or (IsSoundLane most) lanes lane front within all)
+
+-- the item that is taken from a lane
+pub taken_sound : (most lane : ℕ) (lanes : List (List Stamped)) (front : List Stamped) (s : Stamped) (others : List Stamped) → lane < length lanes
+    → front ≡ get_or lanes lane front → front ≡ s ∷ others → All (IsSoundLane most) lanes → IsSoundItem most s
+taken_sound most lane lanes front s others within is e all =
+    All-head (IsSoundItem most) s others (All-same (IsSoundItem most) (s ∷ others) front (sym e) (lane_sound most lane lanes front within is all))
+
+-- the lanes without that item
+pub left_sound : (most lane : ℕ) (lanes : List (List Stamped)) (front : List Stamped) (s : Stamped) (others : List Stamped) → lane < length lanes
+    → front ≡ get_or lanes lane front → front ≡ s ∷ others → All (IsSoundLane most) lanes → All (IsSoundLane most) (set lanes lane others)
+left_sound most lane lanes front s others within is e all =
+    All-set (IsSoundLane most) lanes lane others
+    (All-tail (IsSoundItem most) s others (All-same (IsSoundItem most) (s ∷ others) front (sym e) (lane_sound most lane lanes front within is all))) all
+
+-- the same lanes and readers, with other items, actors and turns
+wired_with : (w : WorldState) (lanes : List (List Stamped)) (actors : List ActorState) (turns : List TurnDone) (settles : List SettleDone) → IsWired w → length lanes ≡ length w.lanes
+    → length actors ≡ length w.actors → IsWired (record { wires = w.wires; lanes = lanes; actors = actors; turns = turns; settles = settles })
+wired_with w lanes actors turns settles wired e h = record {
+  as_many = e ∙ wired.as_many;
+  readers = subst (λ n. All (IsReadBelow n) w.wires) (sym h) wired.readers;
+}
+
+sound_with : (w : WorldState) (most : ℕ) (lanes : List (List Stamped)) (actors : List ActorState) (turns : List TurnDone) (settles : List SettleDone) → IsSound w
+    → length lanes ≡ length w.lanes → length actors ≡ length w.actors → most ≡ length turns + length settles → All (IsSoundLane most) lanes → All (IsClockedBelow most) actors
+    → IsSound (record { wires = w.wires; lanes = lanes; actors = actors; turns = turns; settles = settles })
+sound_with w most lanes actors turns settles sound e h n items clocks = record {
+  wired = wired_with w lanes actors turns settles sound.wired e h;
+  few = sound.few;
+  items = subst (λ m. All (IsSoundLane m) lanes) n items;
+  clocks = subst (λ m. All (IsClockedBelow m) actors) n clocks;
+}
+
+-- a world without an item that was taken
+pub sound_left : (w : WorldState) (lane : ℕ) (front : List Stamped) (s : Stamped) (others : List Stamped) (turns : List TurnDone) → IsSound w → lane < length w.lanes
+    → front ≡ get_or w.lanes lane front → front ≡ s ∷ others → length turns ≡ length w.turns
+    → IsSound (record { wires = w.wires; lanes = set w.lanes lane others; actors = w.actors; turns = turns; settles = w.settles })
+sound_left w lane front s others turns sound within is e n =
+    sound_with w (done_in w) (set w.lanes lane others) w.actors turns w.settles sound (length-set w.lanes lane others) refl (omega arith)
+    (left_sound (done_in w) lane w.lanes front s others within is e sound.items) sound.clocks
+
+-- the same, with another actor of the same clock
+pub sound_kept : (w : WorldState) (lane reader : ℕ) (front : List Stamped) (s : Stamped) (others : List Stamped) (turns : List TurnDone) (before after : ActorState) → IsSound w
+    → lane < length w.lanes → front ≡ get_or w.lanes lane front → front ≡ s ∷ others → length turns ≡ length w.turns
+    → reader < length w.actors → before ≡ get_or w.actors reader before → after.clock ≡ before.clock
+    → IsSound (record { wires = w.wires; lanes = set w.lanes lane others; actors = set w.actors reader after; turns = turns; settles = w.settles })
+sound_kept w lane reader front s others turns before after sound within is e n there at same =
+    let below : before.clock ≤ done_in w = subst (λ (a : ActorState). a.clock ≤ done_in w) (sym at) (All-get_or (IsClockedBelow (done_in w)) w.actors reader before there sound.clocks) in
+    sound_with w (done_in w) (set w.lanes lane others) (set w.actors reader after) turns w.settles sound (length-set w.lanes lane others) (length-set w.actors reader after) (omega arith)
+    (left_sound (done_in w) lane w.lanes front s others within is e sound.items)
+    (All-set (IsClockedBelow (done_in w)) w.actors reader after (omega (arith, below, same)) sound.clocks)
+
+clock_after : (before : ActorState) (s : Stamped) → (actor_after before s).clock ≡ next_stamp before s
+unfolding actor_after
+clock_after before s = refl
+
+-- the world after a turn
+pub sound_turned : (w : WorldState) (lane reader : ℕ) (front : List Stamped) (s : Stamped) (others : List Stamped) (turns : List TurnDone) (before after : ActorState) (stamp : ℕ)
+    (lanes : List (List Stamped)) → IsSound w
+    → lane < length w.lanes → front ≡ get_or w.lanes lane front → front ≡ s ∷ others → length turns ≡ length w.turns + 1
+    → reader < length w.actors → before ≡ get_or w.actors reader before → after ≡ actor_after before s → stamp ≡ next_stamp before s
+    → length lanes ≡ length (set w.lanes lane others) → StaySound stamp (set w.lanes lane others) lanes
+    → IsSound (record { wires = w.wires; lanes = lanes; actors = set w.actors reader after; turns = turns; settles = w.settles })
+sound_turned w lane reader front s others turns before after stamp lanes sound within is e n there at became stamped len stay =
+    let below : before.clock ≤ done_in w = subst (λ (a : ActorState). a.clock ≤ done_in w) (sym at) (All-get_or (IsClockedBelow (done_in w)) w.actors reader before there sound.clocks) in
+    let taken : IsSoundItem (done_in w) s = taken_sound (done_in w) lane w.lanes front s others within is e sound.items in
+    let most : stamp ≤ done_in w + 1 = omega (arith, taken.0, below, stamped) in
+    let clock : after.clock ≤ done_in w + 1 = omega (arith, ap (λ (a : ActorState). a.clock) became, clock_after before s, most, stamped) in
+    sound_with w (done_in w + 1) lanes (set w.actors reader after) turns w.settles sound (len ∙ length-set w.lanes lane others) (length-set w.actors reader after) (omega arith)
+    (stay.sound (done_in w + 1) most (lanes_weaker (done_in w) (done_in w + 1) (set w.lanes lane others) (omega arith) (left_sound (done_in w) lane w.lanes front s others within is e sound.items)))
+    (All-set (IsClockedBelow (done_in w + 1)) w.actors reader after clock (clocks_weaker (done_in w) (done_in w + 1) w.actors (omega arith) sound.clocks))
+
+new_clocks : (all : List Role) → All (IsClockedBelow 0) (map new_actor all)
+new_clocks all = All-map (IsClockedBelow 0) new_actor all (λ k d h. omega arith)
+
+-- the world before anything is done
+pub sound_start : (wires : List Wire) (all : List Role) (lanes : List (List Stamped)) (actors : List ActorState) (turns : List TurnDone) (settles : List SettleDone)
+    → length wires < 2 ^ 32 → All (IsReadBelow (length all)) wires → lanes ≡ replicate (length wires) [] → actors ≡ map new_actor all → turns ≡ [] → settles ≡ []
+    → IsSound (record { wires = wires; lanes = lanes; actors = actors; turns = turns; settles = settles })
+sound_start wires all lanes actors turns settles few readers e h t s = record {
+  wired = record {
+    as_many = ap length e ∙ length-replicate (length wires) [];
+    readers = subst (λ n. All (IsReadBelow n) wires) (sym (ap length h ∙ length-map all new_actor)) readers;
+  };
+  few = few;
+  items = subst (λ ls. All (IsSoundLane (length turns + length settles)) ls) (sym e) (All-replicate (IsSoundLane (length turns + length settles)) (length wires) [] (All-nil (IsSoundItem (length turns + length settles))));
+  clocks = clocks_weaker 0 (length turns + length settles) actors (omega arith) (subst (λ xs. All (IsClockedBelow 0) xs) (sym h) (new_clocks all));
+}
+
+driver_below : (n : ℕ) (actors : List ActorState) → All (IsClockedBelow n) actors → driver_clock actors ≤ n
+driver_below n [] all = omega arith
+driver_below n (driver ∷ others) all = All-head (IsClockedBelow n) driver others all
+
+-- the world after items are issued
+pub sound_issued : (w : WorldState) (stamp : ℕ) (lanes : List (List Stamped)) → IsSound w → stamp ≡ driver_clock w.actors → length lanes ≡ length w.lanes → StaySound stamp w.lanes lanes
+    → IsSound (record { wires = w.wires; lanes = lanes; actors = w.actors; turns = w.turns; settles = w.settles })
+sound_issued w stamp lanes sound is len stay =
+    sound_with w (done_in w) lanes w.actors w.turns w.settles sound len refl refl
+    (stay.sound (done_in w) (omega (arith, is, driver_below (done_in w) w.actors sound.clocks)) sound.items) sound.clocks
+
+-- no clock is above the turns and settles done
+pub greatest_below : (n : ℕ) (actors : List ActorState) → All (IsClockedBelow n) actors → greatest_clock actors ≤ n
+greatest_below n [] all = omega arith
+greatest_below n (actor ∷ actors) all =
+    omega (arith, All-head (IsClockedBelow n) actor actors all, greatest_below n actors (All-tail (IsClockedBelow n) actor actors all))
+
+-- the world after a settle
+pub sound_settled : (w : WorldState) (clock : ℕ) (actors : List ActorState) (settles : List SettleDone) → IsSound w
+    → clock ≡ greatest_clock w.actors + 1 → actors ≡ map (with_clock clock) w.actors → length settles ≡ length w.settles + 1
+    → IsSound (record { wires = w.wires; lanes = w.lanes; actors = actors; turns = w.turns; settles = settles })
+sound_settled w clock actors settles sound is set_to n =
+    sound_with w (done_in w + 1) w.lanes actors w.turns settles sound refl (ap length set_to ∙ length-map w.actors (with_clock clock)) (omega arith)
+    (lanes_weaker (done_in w) (done_in w + 1) w.lanes (omega arith) sound.items)
+    (All-same (IsClockedBelow (done_in w + 1)) actors (map (with_clock clock) w.actors) set_to
+    (All-map (IsClockedBelow (done_in w + 1)) (with_clock clock) w.actors (λ k d h. omega (arith, is, greatest_below (done_in w) w.actors sound.clocks))))

@@ -1,0 +1,15 @@
+use Rattle.std.proofs.Common.{◌≡◌, true, length}
+use Rattle.std.specs.Vec.Iter.{into_iter_items}
+use Rattle.or_actor.specs.Fits.{have_small_links}
+use Rattle.net_record.specs.World.{delivered}
+use Rattle.net_world.specs.Sound.{StaySound}
+use Rattle.net_world.proofs.delivery.deliver.Given as goal
+
+-- delivering what is left gives what delivering all of it gives
+abbrev pub invariant-loop-output : goal.invariant-loop-output
+invariant-loop-output l = record {
+  rest : delivered l.wires l.writer l.stamp l.lanes.items (into_iter_items l.output-iterator) ≡ delivered l.wires l.writer l.stamp l.fn.lanes.items (into_iter_items l.initial.output-iterator);
+  len : length l.lanes.items ≡ length l.fn.lanes.items;
+  small : have_small_links (into_iter_items l.output-iterator) ≡ true;
+  sound : StaySound l.stamp l.fn.lanes.items l.lanes.items;
+}

@@ -1,0 +1,23 @@
+use Rattle.std.proofs.Common.{ap, ◌∙◌, rules}
+use Rattle.net_record.specs.World.{WorldState, issued}
+use Rattle.net_world.proofs.Soundness.{sound_issued}
+use Rattle.net_world.proofs.Turning.{issue_made}
+use Rattle.net_world.proofs.world.World.issue.Goals as goal
+
+pub invariant_of-self : goal.invariant_of-self
+invariant_of-self c =
+    let i = c.self.inside in
+    let w : WorldState = record { wires = i.wires.items; lanes = i.lanes.items; actors = i.actors.items; turns = i.turns.items; settles = i.settles.items } in
+    sound_issued w c.driver_clock-stamp.result c.deliver.new.lanes.items c.self.invariant (search rules) (search rules) (search rules)
+
+pub invariant_of-self-2 : goal.invariant_of-self-2
+invariant_of-self-2 c =
+    let i = c.self.inside in
+    let w : WorldState = record { wires = i.wires.items; lanes = i.lanes.items; actors = i.actors.items; turns = i.turns.items; settles = i.settles.items } in
+    sound_issued w c.driver_clock-stamp.result c.deliver.new.lanes.items c.self.invariant (search rules) (search rules) (search rules)
+
+pub returns : goal.returns
+returns c =
+    let i = c.self.inside in
+    let w : WorldState = record { wires = i.wires.items; lanes = i.lanes.items; actors = i.actors.items; turns = i.turns.items; settles = i.settles.items } in
+    issue_made w c.driver_clock-stamp.result c.args.issues.items c.deliver.new.lanes.items (search rules) (search rules) ∙ ap (λ v. issued v c.args.issues.items) c.self.view_is

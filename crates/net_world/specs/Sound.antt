@@ -1,0 +1,32 @@
+use Rattle.std.specs.Prelude.{ℕ, ◌+◌, ◌<◌, ◌≤◌, ◌^◌, length, List, All, IsTrue}
+use Rattle.or_base.specs.declared.item.Stamped.{Stamped}
+use Rattle.or_actor.specs.Fits.{has_small_link}
+use Rattle.net_record.specs.declared.actor.ActorState.{ActorState}
+use Rattle.net_record.specs.World.{WorldState}
+use Rattle.net_record.specs.Wired.{IsWired}
+
+-- the stamp is at most n, and a link that the item names has a number below 2^31
+abbrev pub IsSoundItem : ℕ → Stamped → Type 0
+IsSoundItem n s = (s.stamp ≤ n) × IsTrue (has_small_link s.item)
+
+abbrev pub IsSoundLane : ℕ → List Stamped → Type 0
+IsSoundLane n items = All (IsSoundItem n) items
+
+abbrev pub IsClockedBelow : ℕ → ActorState → Type 0
+IsClockedBelow n actor = actor.clock ≤ n
+
+-- where lanes are sound up to a bound that the stamp keeps, they are so after items with the stamp are put on them
+pub record StaySound (stamp : ℕ) (before after : List (List Stamped)) : Type 0 where
+  pub sound : (most : ℕ) → stamp ≤ most → All (IsSoundLane most) before → All (IsSoundLane most) after
+
+-- how many turns and settles are done
+abbrev pub done_in : WorldState → ℕ
+done_in w = length w.turns + length w.settles
+
+-- Lanes and readers are there, lanes have 32-bit numbers, every stamp and clock is at most the turns and settles done,
+-- and every link that an item names has a small number. Each turn keeps this.
+pub record IsSound (w : WorldState) : Type 0 where
+  pub wired : IsWired w
+  pub few : length w.wires < 2 ^ 32
+  pub items : All (IsSoundLane (done_in w)) w.lanes
+  pub clocks : All (IsClockedBelow (done_in w)) w.actors

@@ -1,0 +1,76 @@
+ghost use Rattle.std.specs.Prelude.{◌≡◌, [], ◌∷◌, ◌++◌, ◌<◌, map, length, IfOk, OnOk, OnErr};
+
+use or_base::{NoMemory, Stamped};
+use std::alloc::Global;
+use std::collections::VecDeque;
+use std::marker::Model;
+
+/// The items that wait for a reader. Contracts see them as a list, the oldest first.
+#[derive(Drop)]
+pub struct Lane {
+    items: VecDeque<Stamped>,
+}
+
+impl Model for Lane {
+    ghost use Rattle.std.specs.Prelude.{List};
+    ghost use Rattle.or_base.specs.declared.item.Stamped.{Stamped};
+
+    ghost Value = { List Stamped };
+
+    ghost view = { λ lane. lane.items.items };
+}
+
+impl Lane {
+    ghost use Rattle.net_record.specs.World.{is_empty};
+
+    /// No item waits yet. It takes no memory.
+    pub fn new(alloc: Global) -> Lane
+        ensures { result ≡ [] }
+    {
+        Lane {
+            items: VecDeque::new(alloc),
+        }
+    }
+
+    /// How many items wait.
+    pub fn len(&self) -> usize
+        ensures { result ≡ length self.now }
+    {
+        self.items.len()
+    }
+
+    /// No item waits.
+    pub fn is_empty(&self) -> bool
+        ensures { result ≡ is_empty self.now }
+    {
+        self.items.is_empty()
+    }
+
+    /// The item waits behind the others. Where memory runs out the lane stays as it was.
+    pub fn put(&mut self, item: Stamped) -> Result<(), NoMemory>
+        ensures ok { OnOk result (self.new ≡ self.old ++ item ∷ []) }
+        ensures err { OnErr result (self.new ≡ self.old) }
+    {
+        self.items.push_back(item)?;
+        Ok(())
+    }
+
+    /// Takes the oldest item. It takes no memory.
+    pub fn take(&mut self) -> Stamped
+        requires { 0 < length self.old }
+        ensures { self.old ≡ result ∷ self.new }
+    {
+        self.items.pop_front().unwrap()
+    }
+}
+
+/// How many items wait on each lane.
+pub fn counts_of(alloc: Global, lanes: &[Lane]) -> Result<Vec<usize>, NoMemory>
+    ensures { IfOk result (λ counts. counts.items ≡ map length lanes.now) }
+{
+    let mut counts = Vec::new(alloc);
+    for lane in lanes {
+        counts.push(lane.len())?;
+    }
+    Ok(counts)
+}

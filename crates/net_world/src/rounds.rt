@@ -1,0 +1,172 @@
+ghost use Rattle.std.specs.Prelude.{◌≡◌, ◌+◌, ◌<◌, ◌^◌, [], All, length, IfOk, IfErr, OnOk};
+ghost use Rattle.net_record.specs.World.{start, is_drained, settled};
+ghost use Rattle.net_record.specs.Rounds.{turns_on, round, after_round, rounds_of, phase_of, rounds_from, round_robin};
+ghost use Rattle.net_record.specs.Records.{record_of, IsSettled, IsRecordOf};
+ghost use Rattle.net_record.specs.Run.{run, schedule_of};
+ghost use Rattle.net_record.specs.Ends.{EndsDrained};
+ghost use Rattle.net_record.specs.Small.{IssuesSmallLinks};
+ghost use Rattle.net_world.specs.Fault.{IsFaultOf};
+
+use crate::fault::RunFault;
+use crate::world::World;
+use net_record::{Phase, Record, phases, rounds_are_a_run, settled_rounds_end_drained};
+use net_scenario::Scenario;
+use or_base::NoMemory;
+use std::alloc::Global;
+use std::marker::Model;
+
+/// So many turns of a lane.
+#[tactic(auto, using(crate::proofs::Rounding::turns_step))]
+fn turns_on(world: &mut World, lane: usize, count: usize) -> Result<(), NoMemory>
+    ensures { OnOk result (world.new ≡ turns_on world.old lane count) }
+{
+    for _turn in 0..count {
+        world.turn(lane, 0)?;
+    }
+    Ok(())
+}
+
+/// A round: of each lane, in order, as many turns as items wait on it as the round begins.
+#[tactic(auto, unfolding(net_record::specs::Rounds::round))]
+fn round(world: &mut World) -> Result<(), NoMemory>
+    ensures { OnOk result (world.new ≡ round world.old) }
+{
+    let counts = world.waiting_counts()?;
+    for lane in 0..counts.len() {
+        turns_on(world, lane, counts[lane])?;
+    }
+    Ok(())
+}
+
+/// A world, and how many turns were done as each round ended.
+#[derive(Drop)]
+struct MarkedWorld {
+    world: World,
+    marks: Vec<u64>,
+}
+
+impl Model for MarkedWorld {
+    ghost use Rattle.net_record.specs.Rounds.{Marked};
+
+    ghost Value = { Marked };
+
+    ghost view = { λ m. record { world = m.world; marks = m.marks.items } };
+}
+
+impl MarkedWorld {
+    /// The world of a scenario before its first round.
+    fn new(alloc: Global, scenario: &Scenario) -> Result<MarkedWorld, NoMemory>
+        ensures { IfOk result (λ m. m ≡ record { world = start scenario.now; marks = [] }) }
+    {
+        Ok(MarkedWorld {
+            world: World::new(alloc, scenario)?,
+            marks: Vec::new(alloc),
+        })
+    }
+
+    /// No item waits.
+    fn is_drained(&self) -> bool
+        ensures { result ≡ is_drained self.now.world }
+    {
+        self.world.is_drained()
+    }
+
+    /// One round.
+    fn run_round(&mut self) -> Result<(), NoMemory>
+        ensures { OnOk result (self.new ≡ after_round self.old) }
+    {
+        round(&mut self.world)?;
+        self.marks.push(self.world.turn_count())?;
+        Ok(())
+    }
+
+    /// Rounds until no item waits, at most so many.
+    #[tactic(auto, using(crate::proofs::Rounding::rounds_step))]
+    fn run_rounds(&mut self, count: u64) -> Result<(), NoMemory>
+        ensures { OnOk result (self.new ≡ rounds_of self.old count) }
+    {
+        for _round in 0..count {
+            if self.is_drained() {
+                return Ok(());
+            }
+            self.run_round()?;
+        }
+        Ok(())
+    }
+
+    /// The rounds of a phase.
+    fn run_phase(&mut self, phase: Phase) -> Result<(), NoMemory>
+        requires { IssuesSmallLinks phase }
+        ensures { OnOk result (self.new ≡ phase_of self.old phase) }
+    {
+        let Phase { issues, rounds } = phase;
+        self.world.issue(issues.into_vec())?;
+        self.run_rounds(rounds)
+    }
+
+    /// A phase ends.
+    fn settle(&mut self) -> Result<(), NoMemory>
+        ensures { OnOk result (self.new ≡ record { world = settled self.old.world; marks = self.old.marks }) }
+    {
+        self.world.settle()?;
+        Ok(())
+    }
+
+    /// The rounds of phases, each of which is settled. Where one isn't, the answer is its number, from 1.
+    #[tactic(auto, using(crate::proofs::Rounding::phases_steps))]
+    fn run_phases(&mut self, phases: Vec<Phase>) -> Result<Option<u64>, NoMemory>
+        requires { All IssuesSmallLinks phases.items }
+        ensures { IfOk result (λ unsettled. record { unsettled = unsettled; last = self.new } ≡ rounds_from 1 self.old phases.items) }
+    {
+        let mut number = 1;
+        for phase in phases {
+            self.run_phase(phase)?;
+            if !self.is_drained() {
+                return Ok(Some(number));
+            }
+            self.settle()?;
+            number += 1;
+        }
+        Ok(None)
+    }
+
+    /// What was done.
+    fn into_record(self) -> Result<Record, NoMemory>
+        ensures { IfOk result (λ done. done ≡ record_of self.world self.marks) }
+    {
+        let MarkedWorld { world, marks } = self;
+        world.into_record(marks)
+    }
+}
+
+/// The rounds of every phase of a scenario.
+#[tactic(auto, unfolding(net_record::specs::Rounds::round_robin))]
+fn run_scenario(alloc: Global, scenario: &Scenario) -> Result<Record, RunFault>
+    ensures rounds { IfOk result (λ done. IsSettled (round_robin scenario.now) done) }
+    ensures fault { IfErr result (λ fault. IsFaultOf (round_robin scenario.now) fault) }
+{
+    let phases = phases(alloc, scenario)?;
+    let mut marked = MarkedWorld::new(alloc, scenario)?;
+    let unsettled = marked.run_phases(phases)?;
+    let done = marked.into_record()?;
+    match unsettled {
+        None => Ok(done),
+        Some(settle) => Err(RunFault::Unsettled { settle, done }),
+    }
+}
+
+/// Runs a scenario by round robin: in each phase rounds until no item waits, at most as many as the settle that ends
+/// it allows. The record is that of these rounds. Each phase has its settle, and no item waits at the end. But for its
+/// marks the record is that of the run under the schedule of its own turns.
+#[tactic(auto, using(crate::proofs::Recorded::recorded))]
+pub fn round_robin(alloc: Global, scenario: &Scenario) -> Result<Record, RunFault>
+    ensures rounds { IfOk result (λ done. IsSettled (round_robin scenario.now) done) }
+    ensures drained { IfOk result (λ done. EndsDrained scenario.now) }
+    ensures is_run { IfOk result (λ done. IsRecordOf (run scenario.now (schedule_of done.turns)) done) }
+    ensures fault { IfErr result (λ fault. IsFaultOf (round_robin scenario.now) fault) }
+{
+    rounds_are_a_run();
+    settled_rounds_end_drained();
+    let done = run_scenario(alloc, scenario)?;
+    Ok(done)
+}
