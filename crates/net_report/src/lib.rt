@@ -1,17 +1,38 @@
-//! The report of a run as text.
+//! The report of a run as text: what each settle of a scenario showed, for a reader or for a comparison of runs.
+//!
+//! The report is a function of the record of a run and of its scenario, defined in `specs/Report.antt`, and `report`
+//! returns exactly its bytes. It has a line for each settle that was done, after it the stores of the nodes where the
+//! settle shows them, and `end` as its last line. Numbers are decimal; a value's bytes are lower case hex.
+//!
+//! The files: `lines` (the single lines), `text` (what they make up). Each function appends to one text, so the
+//! report costs what it writes and, for each key, a scan of the node's journal.
 #![tactic(auto)]
 
 ghost use Rattle.std.specs.Prelude.{◌≡◌, IfOk};
 ghost use Rattle.net_report.specs.Report.{report};
 
+mod lines;
+mod text;
+
+use crate::text::settles_text;
 use net_record::Record;
 use net_scenario::Scenario;
 use or_base::NoMemory;
 use std::alloc::Global;
 
 /// The report of a run of the scenario.
+#[tactic(auto, unfolding(crate::specs::Report::report))]
 pub fn report(alloc: Global, done: &Record, scenario: &Scenario) -> Result<Vec<u8>, NoMemory>
     ensures { IfOk result (λ text. text.items ≡ report done.now scenario.now) }
 {
-    Ok(Vec::new(alloc))
+    let mut out = String::new(alloc);
+    settles_text(
+        &mut out,
+        scenario.commands.as_slice(),
+        done.settles.as_slice(),
+        scenario.nodes.as_slice(),
+        done.journals.as_slice(),
+    )?;
+    out.push_str("end\n")?;
+    Ok(out.into_bytes())
 }

@@ -1,0 +1,85 @@
+//! The single lines, each appended to the text and ended by LF.
+
+ghost use Rattle.std.specs.Prelude.{◌≡◌, ◌++◌, OnOk, string_bytes};
+ghost use Rattle.net_report.specs.Report.{settle_line, store_line, hex_text, left_text, key_line};
+
+use net_record::NodeMark;
+use or_base::{Key, KvValue, Name, NoMemory};
+
+/// `settle <k> moment <moment>`: the k-th settle, from 1, and its moment in milliseconds.
+#[tactic(auto, unfolding(crate::specs::Report::settle_line))]
+pub(crate) fn settle_line(out: &mut String, k: u64, moment: u64) -> Result<(), NoMemory>
+    ensures { OnOk result (string_bytes out.new ≡ string_bytes out.old ++ settle_line k moment) }
+{
+    write!(out, "settle {k} moment {moment}\n")?;
+    Ok(())
+}
+
+/// `store <node> entries <journal length> stale <count>`.
+#[tactic(auto, unfolding(crate::specs::Report::store_line))]
+pub(crate) fn store_line(out: &mut String, node: &Name, mark: NodeMark) -> Result<(), NoMemory>
+    ensures { OnOk result (string_bytes out.new ≡ string_bytes out.old ++ store_line node.now mark) }
+{
+    let name = node.as_str();
+    let entries = mark.entries;
+    let stale = mark.stale;
+    write!(out, "store {name} entries {entries} stale {stale}\n")?;
+    Ok(())
+}
+
+/// Bytes in lower case hex, `-` where there are none.
+fn hex_text(out: &mut String, bytes: &[u8]) -> Result<(), NoMemory>
+    ensures { OnOk result (string_bytes out.new ≡ string_bytes out.old ++ hex_text bytes.now) }
+{
+    if bytes.is_empty() {
+        out.push_str("-")?;
+    } else {
+        let text = hex::encode(*out.allocator(), bytes)?;
+        out.push_str(text.as_str())?;
+    }
+    Ok(())
+}
+
+/// What is left at a moment of the lifetime of a value, in milliseconds, `-` where it lives for ever.
+fn left_text(
+    out: &mut String,
+    ttl: Option<u64>,
+    merged_at: u64,
+    moment: u64,
+) -> Result<(), NoMemory>
+    ensures { OnOk result (string_bytes out.new ≡ string_bytes out.old ++ left_text ttl merged_at moment) }
+{
+    match ttl {
+        None => out.push_str("-")?,
+        Some(ttl) => {
+            // The deadline can be past the range of u64.
+            let deadline = u128::from(merged_at) + u128::from(ttl);
+            let left = deadline.saturating_sub(u128::from(moment));
+            write!(out, "{left}")?;
+        }
+    }
+    Ok(())
+}
+
+/// `key <key> <version> <originator> <hex> <ttl version> <left>`, as it is at the moment.
+#[tactic(auto, unfolding(crate::specs::Report::key_line))]
+pub(crate) fn key_line(
+    out: &mut String,
+    key: &Key,
+    value: &KvValue,
+    merged_at: u64,
+    moment: u64,
+) -> Result<(), NoMemory>
+    ensures { OnOk result (string_bytes out.new ≡ string_bytes out.old ++ key_line key.now value.now merged_at moment) }
+{
+    let key = key.as_str();
+    let version = value.version;
+    let originator = value.originator.as_str();
+    write!(out, "key {key} {version} {originator} ")?;
+    hex_text(out, value.value.as_slice())?;
+    let ttl_version = value.ttl_version;
+    write!(out, " {ttl_version} ")?;
+    left_text(out, value.ttl, merged_at, moment)?;
+    out.push_str("\n")?;
+    Ok(())
+}
