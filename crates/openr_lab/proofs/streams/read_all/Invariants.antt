@@ -1,0 +1,14 @@
+use Rattle.std.proofs.Common.{◌≡◌, ◌-◌, ◌≤◌, vec_len}
+use Rattle.openr_lab.proofs.Steps.{ReadSoFar}
+use Rattle.openr_lab.proofs.streams.read_all.Given as goal
+
+-- no read failed so far, and the bytes so far are from the front of what was left
+abbrev pub invariant-loop-buffer : goal.invariant-loop-buffer
+invariant-loop-buffer g l = record {
+  faults : g.S.Source.faults l.source ≡ g.S.Source.faults l.fn.source;
+  within : vec_len l.bytes ≤ 33554433;
+  so_far : ReadSoFar (g.S.Source.left l.fn.source) (g.S.Source.left l.source) l.bytes.items;
+}
+
+abbrev pub decreases-loop-buffer : goal.decreases-loop-buffer
+decreases-loop-buffer g l = 33554433 - vec_len l.bytes

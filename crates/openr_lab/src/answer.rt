@@ -1,0 +1,13 @@
+use net_record::Record;
+use or_base::Bytes;
+
+/// What the program answers to bytes that it has read.
+#[derive(Drop)]
+pub struct Answer {
+    /// 0 done, 3 no scenario, 4 unsettled.
+    pub status: u8,
+    /// What is written.
+    pub text: Bytes,
+    /// The record of the run, as far as it came.
+    pub run: Option<Record>,
+}

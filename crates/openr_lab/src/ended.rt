@@ -1,0 +1,10 @@
+use net_record::Record;
+
+/// How a call of the program ended.
+#[derive(Drop)]
+pub struct Ended {
+    /// 0 done, 2 wrong words, 3 no scenario, 4 unsettled, 5 want of memory, 6 a read failed, 7 a write failed.
+    pub status: u8,
+    /// The record of the run: at 0, at 4 as far as it came, and at 7 after a finished run.
+    pub run: Option<Record>,
+}

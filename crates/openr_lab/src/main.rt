@@ -1,0 +1,48 @@
+//! The program: bytes in, bytes and a status out.
+//!
+//! `openr` does all that the program does, over any source and any sink: it reads the words, then the source, runs
+//! the scenario by round robin and writes the report. Input is read whole before anything is done with it, and every
+//! text is made whole before its first byte goes out. Its contract is the theorem on the whole program: what each
+//! status says of the bytes read, of the bytes written and of the record (`specs/Ends.antt`, over `answer_to` of
+//! `specs/Answer.antt`). `main` makes the real source and sink and ends with the status.
+//!
+//! The files: `words`, `streams` (reading and writing whole), `replay` (the answer to the bytes), `top` (the call).
+#![tactic(auto)]
+
+mod answer;
+mod ended;
+mod replay;
+mod streams;
+#[cfg(test)]
+mod tests;
+mod top;
+mod words;
+
+use or_base::{RealSink, RealSource};
+use std::process::ExitCode;
+use std::rt::Env;
+use std::{env, io};
+use top::openr;
+
+/// The status for want of memory.
+const WANT_OF_MEMORY: u8 = 5;
+
+/// The words after the program's name; none where one of them isn't text, since that is no word of the program's.
+fn words_given(rt: &(impl Env + AllocGlobal)) -> io::Result<Vec<String>> {
+    match env::args(rt) {
+        Ok(args) => Ok(args.skip(1).collect(rt.alloc())?),
+        Err(error) if error.kind() == io::ErrorKind::InvalidData => Ok(Vec::new(rt.alloc())),
+        Err(error) => Err(error),
+    }
+}
+
+fn main(rt: HostRuntime) -> ExitCode {
+    let words = match words_given(&rt) {
+        Ok(words) => words,
+        Err(_) => return ExitCode::from(WANT_OF_MEMORY),
+    };
+    let mut source = RealSource::new(rt.stdin());
+    let mut sink = RealSink::new(rt.stdout());
+    let ended = openr(rt.alloc(), words.as_slice(), &mut source, &mut sink);
+    ExitCode::from(ended.status)
+}

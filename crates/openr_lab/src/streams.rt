@@ -1,0 +1,64 @@
+ghost use Rattle.std.specs.Prelude.{◌≡◌, ℕ, ◌<◌, ◌≤◌, ◌^◌, vec_len, IfOk, OnOk, OnErr, Err};
+ghost use Rattle.openr_lab.specs.Streams.{ReadWhole, WroteWhole, WroteFront};
+
+use or_base::{Sink, Source, WriteFault};
+use std::alloc::Global;
+
+/// Why a source was not read to its end.
+#[derive(Clone, Copy, Debug, PartialEq, Eq)]
+pub enum ReadRefusal {
+    /// A read failed.
+    Fault,
+    /// Memory ran out.
+    NoMemory,
+}
+
+/// How many bytes `read_all` reads at most: one more than the largest input, so that a larger one shows.
+pub const READ_LIMIT: usize = 33_554_433;
+
+/// How many bytes one call of the source may give.
+const BUFFER_BYTES: usize = 65_536;
+
+/// Reads the source to its end, or until there are `READ_LIMIT` bytes.
+#[tactic(auto, using(crate::proofs::Steps::read_steps))]
+pub fn read_all<S: Source>(alloc: Global, source: &mut S) -> Result<Vec<u8>, ReadRefusal>
+    requires { S.faults source.old < 2 ^ 62 }
+    ensures whole { IfOk result
+        (λ bytes. ReadWhole READ_LIMIT (S.left source.old) (S.left source.new) bytes.items) }
+    ensures within { IfOk result (λ bytes. vec_len bytes ≤ READ_LIMIT) }
+    ensures ok { OnOk result (S.faults source.new ≡ S.faults source.old) }
+    ensures fault { result ≡ Err ReadRefusal.Fault → S.faults source.old < S.faults source.new }
+    ensures memory { result ≡ Err ReadRefusal.NoMemory → S.faults source.new ≡ S.faults source.old }
+{
+    let mut bytes = Vec::new(alloc);
+    let mut buffer = [0u8; BUFFER_BYTES];
+    while bytes.len() < READ_LIMIT {
+        let room = (READ_LIMIT - bytes.len()).min(BUFFER_BYTES);
+        let count = source
+            .read(&mut buffer[..room])
+            .map_err(|_| ReadRefusal::Fault)?;
+        if count == 0 {
+            return Ok(bytes);
+        }
+        bytes
+            .extend_from_slice(&buffer[..count])
+            .map_err(|_| ReadRefusal::NoMemory)?;
+    }
+    Ok(bytes)
+}
+
+/// Writes the whole text. Each call of the sink is offered all that is left of it.
+#[tactic(auto, using(crate::proofs::Steps::write_steps))]
+pub fn write_all<K: Sink>(sink: &mut K, text: &[u8]) -> Result<(), WriteFault>
+    requires { K.faults sink.old < 2 ^ 62 }
+    ensures whole { OnOk result (WroteWhole (K.taken sink.old) (K.taken sink.new) text.now) }
+    ensures front { WroteFront (K.taken sink.old) (K.taken sink.new) text.now }
+    ensures ok { OnOk result (K.faults sink.new ≡ K.faults sink.old) }
+    ensures cause { OnErr result (K.faults sink.old < K.faults sink.new) }
+{
+    let mut written = 0;
+    while written < text.len() {
+        written += sink.write(&text[written..])?;
+    }
+    Ok(())
+}
