@@ -3,3 +3,5 @@ pub mod Members
 pub mod Offers
 pub mod AnyOrder
 pub mod Keys
+pub mod HeldKeys
+pub mod Remainders

@@ -1,4 +1,4 @@
-use Rattle.std.specs.Prelude.{◌≡◌, ℕ, List, [], ◌∷◌, ◌++◌, Option, Some, None, Bool, false, if◌then◌else◌, ◌&&◌, Contains}
+use Rattle.std.specs.Prelude.{◌≡◌, ℕ, List, [], ◌∷◌, ◌++◌, Option, Some, None, Bool, false, if◌then◌else◌, ◌&&◌, true, Contains, is_some}
 use Rattle.std.specs.Str.{bytes_eq}
 use Rattle.std.specs.Option.{option_to_list}
 use Rattle.std.specs.List.{AllByRecursion}
@@ -6,9 +6,10 @@ use Rattle.or_base.specs.declared.value.KvValue.{KvValue}
 use Rattle.or_base.specs.declared.value.Pair.{Pair}
 use Rattle.or_base.specs.declared.origin.Origin.{Origin}
 use Rattle.or_base.specs.declared.entry.JournalEntry.{JournalEntry}
-use Rattle.or_base.specs.Order.{is_below, IsSame}
+use Rattle.std.specs.declared.cmp.Ordering.TheVariants.{Less}
+use Rattle.or_base.specs.Order.{bytes_cmp, is_below, IsSame}
 use Rattle.or_base.specs.Limits.{is_valid_pair}
-use Rattle.or_base.specs.Journal.{held_value, offer}
+use Rattle.or_base.specs.Journal.{holds, held_value, held_keys, offer}
 
 -- a pair that is offered, the moment, and how it came
 pub record Offer : Type 0 where
@@ -59,3 +60,22 @@ LeavesSameInAnyOrder =
     (journal : List JournalEntry) (os qs : List Offer) (key : List ℕ)
     → HaveSameOffers os qs
     → AreSame (held_value (after_offers journal os) key) (held_value (after_offers journal qs) key)
+
+-- a key stands before every other one, in byte order
+abbrev pub IsBeforeAll : List ℕ → List (List ℕ) → Type 0
+IsBeforeAll key keys = AllByRecursion (λ other. bytes_cmp key other ≡ Less) keys
+
+-- keys in byte order, each once
+abbrev pub AreInByteOrder : List (List ℕ) → Type 0
+AreInByteOrder [] = Unit {0}
+AreInByteOrder (key ∷ keys) = IsBeforeAll key keys × AreInByteOrder keys
+
+-- what is said of the keys that a journal holds: they are in byte order, each once, and are exactly those under which
+-- something is held
+pub record HoldsKeys (journal : List JournalEntry) (keys : List (List ℕ)) : Type 0 where
+  pub ordered : AreInByteOrder keys
+  pub held : (key : List ℕ) → Contains keys key → is_some (holds journal key) ≡ true
+  pub all : (key : List ℕ) → is_some (holds journal key) ≡ true → Contains keys key
+
+abbrev pub HeldKeysAreThese : Type 0
+HeldKeysAreThese = (journal : List JournalEntry) → HoldsKeys journal (held_keys journal)

@@ -3,3 +3,5 @@ pub mod Limits
 pub mod Journal
 pub mod Law
 pub mod Stream
+pub mod Prefix
+pub mod Memory

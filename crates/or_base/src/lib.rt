@@ -8,13 +8,17 @@
 //! order of the same offers leaves the same values.
 //!
 //! The files: `memory` (the one free error, and copies that may meet it), `text` and `seq` (newtypes that contracts
-//! see as lists), `value`, `entry`, `item` (plain data that contracts see as it is), `journal` (the plain bodies of
+//! see as lists), `prefix` (a prefix keeps no bit beyond its length), `value`, `entry`, `held`, `message`, `act`,
+//! `database`, `digest`, `route`, `item` (plain data that contracts see as it is), `journal` (the plain bodies of
 //! the journal's definitions), `limits`, and the streams: `stream` (the traits), `memory_stream` (fakes that fail on
-//! request), `real_stream` (the trusted edge). No type here keeps a limit: `limits` tests them.
+//! request), `real_stream` (the trusted edge). But for a prefix no type here keeps a limit: `limits` tests them.
 #![tactic(auto)]
 
-ghost use Rattle.or_base.specs.Law.{HoldsGreatest, LeavesSameInAnyOrder};
+ghost use Rattle.or_base.specs.Law.{HoldsGreatest, LeavesSameInAnyOrder, HeldKeysAreThese};
 
+mod act;
+mod database;
+mod digest;
 mod entry;
 mod held;
 mod item;
@@ -25,12 +29,17 @@ mod memory;
 mod memory_stream;
 mod message;
 mod origin;
+mod prefix;
 mod real_stream;
+mod route;
 mod seq;
 mod stream;
 mod text;
 mod value;
 
+pub use act::Act;
+pub use database::{AdjDb, Adjacency, PrefixDb, PrefixEntry};
+pub use digest::DigestRow;
 pub use entry::JournalEntry;
 pub use held::Held;
 pub use item::{Item, Stamped, TurnDone};
@@ -41,7 +50,9 @@ pub use memory::{Copied, NoMemory};
 pub use memory_stream::{MemSink, MemSource, SINK_BYTES};
 pub use message::Msg;
 pub use origin::Origin;
+pub use prefix::Prefix;
 pub use real_stream::{RealSink, RealSource};
+pub use route::{Delta, Route};
 pub use seq::{Seq, copied_items};
 pub use stream::{ReadFault, Sink, Source, WriteFault};
 pub use text::{Bytes, Key, Name};
@@ -53,4 +64,9 @@ pub use value::{KvValue, Pair};
 pub fn offers_hold_greatest()
     ensures greatest { HoldsGreatest }
     ensures any_order { LeavesSameInAnyOrder }
+{}
+
+/// The keys that a journal holds are in byte order, each once, and exactly those under which something is held.
+pub fn held_keys_are_these()
+    ensures { HeldKeysAreThese }
 {}

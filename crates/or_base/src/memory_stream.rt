@@ -1,10 +1,12 @@
-ghost use Rattle.std.specs.Prelude.{◌≡◌, ◌<◌, ◌≤◌, [], Some, length, drop, IfOk};
+ghost use Rattle.std.specs.Prelude.{◌≡◌, ◌+◌, ◌-◌, ◌<◌, ◌≤◌, ◌^◌, ◌++◌, ◌||◌, [], Some, length, drop, take, min, nat_lt, is_err, IfOk, OnOk, OnErr, vec_capacity};
+ghost use Rattle.or_base.specs.Memory.{is_listed, next_call};
+ghost use Rattle.or_base.specs.Stream.{ReadsFront, WritesFront};
 
 use crate::memory::NoMemory;
 use crate::stream::{ReadFault, Sink, Source, WriteFault};
 use std::alloc::Global;
 
-/// A source over bytes in memory, some of whose reads fail.
+/// A source over bytes in memory, some of whose reads fail. Calls are numbered from 1.
 #[derive(Drop)]
 pub struct MemSource {
     bytes: Vec<u8>,
@@ -23,6 +25,9 @@ impl MemSource {
         requires { 0 < per_call }
         ensures left { IfOk result (λ source. ⟦<MemSource as Source>⟧.left source ≡ Some bytes.items) }
         ensures faults { IfOk result (λ source. ⟦<MemSource as Source>⟧.faults source ≡ 0) }
+        ensures per_call { IfOk result (λ source. source.per_call ≡ per_call) }
+        ensures failing { IfOk result (λ source. source.failing ≡ failing) }
+        ensures calls { IfOk result (λ source. source.calls ≡ 0) }
     {
         Ok(MemSource {
             bytes,
@@ -40,7 +45,22 @@ impl Source for MemSource {
 
     ghost faults = { λ source. source.faults };
 
-    fn read(&mut self, buf: &mut [u8]) -> Result<usize, ReadFault> {
+    /// Fails exactly where this call is listed, and else gives as many bytes as are left, as `per_call` and the
+    /// buffer allow.
+    fn read(&mut self, buf: &mut [u8]) -> Result<usize, ReadFault>
+        requires { self.old.faults < 2 ^ 62 }
+        ensures within { IfOk result (λ count. count ≤ length buf.old) }
+        ensures bytes { IfOk result (λ count. ReadsFront (Some (drop self.old.at self.old.bytes.items)) (Some (drop self.new.at self.new.bytes.items)) count buf.new) }
+        ensures ok { OnOk result (self.new.faults ≡ self.old.faults) }
+        ensures err { OnErr result (self.new.at ≡ self.old.at) }
+        ensures cause { OnErr result (self.new.faults ≡ self.old.faults + 1) }
+        ensures fails { is_err result ≡ is_listed (next_call self.old.calls) self.old.failing.items }
+        ensures count { IfOk result (λ count. count ≡ min (min (length self.old.bytes.items - self.old.at) self.old.per_call) (length buf.old)) }
+        ensures calls { self.new.calls ≡ next_call self.old.calls }
+        ensures same_bytes { self.new.bytes ≡ self.old.bytes }
+        ensures same_failing { self.new.failing ≡ self.old.failing }
+        ensures same_per_call { self.new.per_call ≡ self.old.per_call }
+    {
         self.calls = self.calls.saturating_add(1);
         if self.failing.contains(&self.calls) {
             self.faults += 1;
@@ -57,7 +77,7 @@ impl Source for MemSource {
 /// How many bytes a sink in memory takes.
 pub const SINK_BYTES: usize = 33_554_432;
 
-/// A sink into memory, some of whose writes fail. A write past `SINK_BYTES` fails too.
+/// A sink into memory, some of whose writes fail. A write past `SINK_BYTES` fails too. Calls are numbered from 1.
 #[derive(Drop)]
 pub struct MemSink {
     bytes: Vec<u8>,
@@ -67,6 +87,7 @@ pub struct MemSink {
     faults: u64,
     ghost takes: { 0 < per_call },
     ghost in_range: { length bytes.items ≤ 33554432 },
+    ghost room: { 33554432 ≤ vec_capacity bytes },
 }
 
 impl MemSink {
@@ -76,6 +97,9 @@ impl MemSink {
         requires { 0 < per_call }
         ensures taken { IfOk result (λ sink. ⟦<MemSink as Sink>⟧.taken sink ≡ Some []) }
         ensures faults { IfOk result (λ sink. ⟦<MemSink as Sink>⟧.faults sink ≡ 0) }
+        ensures per_call { IfOk result (λ sink. sink.per_call ≡ per_call) }
+        ensures failing { IfOk result (λ sink. sink.failing ≡ failing) }
+        ensures calls { IfOk result (λ sink. sink.calls ≡ 0) }
     {
         Ok(MemSink {
             bytes: Vec::with_capacity(alloc, SINK_BYTES)?,
@@ -99,7 +123,22 @@ impl Sink for MemSink {
 
     ghost faults = { λ sink. sink.faults };
 
-    fn write(&mut self, buf: &[u8]) -> Result<usize, WriteFault> {
+    /// Fails exactly where this call is listed or its bytes go past `SINK_BYTES`, and else takes as many bytes as
+    /// the buffer has and `per_call` allows.
+    fn write(&mut self, buf: &[u8]) -> Result<usize, WriteFault>
+        requires { self.old.faults < 2 ^ 62 }
+        ensures within { IfOk result (λ count. count ≤ length buf.now) }
+        ensures progress { IfOk result (λ count. 0 < length buf.now → 0 < count) }
+        ensures bytes { IfOk result (λ count. WritesFront (Some self.old.bytes.items) (Some self.new.bytes.items) count buf.now) }
+        ensures ok { OnOk result (self.new.faults ≡ self.old.faults) }
+        ensures err { OnErr result (self.new.bytes.items ≡ self.old.bytes.items) }
+        ensures cause { OnErr result (self.new.faults ≡ self.old.faults + 1) }
+        ensures fails { is_err result ≡ (is_listed (next_call self.old.calls) self.old.failing.items || nat_lt (33554432 - length self.old.bytes.items) (min (length buf.now) self.old.per_call)) }
+        ensures count { IfOk result (λ count. count ≡ min (length buf.now) self.old.per_call) }
+        ensures calls { self.new.calls ≡ next_call self.old.calls }
+        ensures same_failing { self.new.failing ≡ self.old.failing }
+        ensures same_per_call { self.new.per_call ≡ self.old.per_call }
+    {
         self.calls = self.calls.saturating_add(1);
         let count = buf.len().min(self.per_call);
         let refused = self.failing.contains(&self.calls) || SINK_BYTES - self.bytes.len() < count;

@@ -144,3 +144,13 @@ impl Copied for Bytes {
         Bytes::copied(self)
     }
 }
+
+/// An equal name, where there is one.
+pub(crate) fn copied_name(name: &Option<Name>) -> Result<Option<Name>, NoMemory>
+    ensures { IfOk result (λ copy. copy ≡ name.now) }
+{
+    match name {
+        Some(name) => Ok(Some(name.copied()?)),
+        None => Ok(None),
+    }
+}

@@ -1,0 +1,121 @@
+ghost use Rattle.std.specs.Prelude.{◌≡◌, IfOk};
+
+use crate::memory::{Copied, NoMemory};
+use crate::prefix::Prefix;
+use crate::seq::Seq;
+use crate::text::Name;
+
+/// A neighbour that a node reports, over one of its interfaces.
+#[derive(Drop)]
+pub struct Adjacency {
+    pub other: Name,
+    pub own_if: Name,
+    pub other_if: Name,
+    /// 1 to 2^31 - 1.
+    pub metric: u32,
+    /// The link takes no traffic.
+    pub overload: bool,
+}
+
+impl Adjacency {
+    /// An equal adjacency.
+    pub fn copied(&self) -> Result<Self, NoMemory>
+        ensures { IfOk result (λ copy. copy ≡ self.now) }
+    {
+        Ok(Adjacency {
+            other: self.other.copied()?,
+            own_if: self.own_if.copied()?,
+            other_if: self.other_if.copied()?,
+            metric: self.metric,
+            overload: self.overload,
+        })
+    }
+}
+
+impl Copied for Adjacency {
+    fn copied(&self) -> Result<Self, NoMemory> {
+        Adjacency::copied(self)
+    }
+}
+
+/// A node's link record.
+#[derive(Drop)]
+pub struct AdjDb {
+    pub node: Name,
+    /// The node carries no transit traffic.
+    pub overload: bool,
+    /// At most 24.
+    pub adjacencies: Seq<Adjacency>,
+}
+
+impl AdjDb {
+    /// An equal record.
+    pub fn copied(&self) -> Result<Self, NoMemory>
+        ensures { IfOk result (λ copy. copy ≡ self.now) }
+    {
+        Ok(AdjDb {
+            node: self.node.copied()?,
+            overload: self.overload,
+            adjacencies: self.adjacencies.copied()?,
+        })
+    }
+}
+
+impl Copied for AdjDb {
+    fn copied(&self) -> Result<Self, NoMemory> {
+        AdjDb::copied(self)
+    }
+}
+
+/// A prefix that a node advertises, with what selection compares. The numbers are 0 to 2^31 - 1.
+#[derive(Clone, Copy, Debug, PartialEq, Eq)]
+pub struct PrefixEntry {
+    pub prefix: Prefix,
+    /// Path preference: the highest wins.
+    pub path: u32,
+    /// Source preference: the highest wins among equal path preferences.
+    pub source: u32,
+    /// The lowest wins among those.
+    pub distance: u32,
+}
+
+impl PrefixEntry {
+    /// An equal entry.
+    pub fn copied(&self) -> Result<Self, NoMemory>
+        ensures { IfOk result (λ copy. copy ≡ self.now) }
+    {
+        Ok(*self)
+    }
+}
+
+impl Copied for PrefixEntry {
+    fn copied(&self) -> Result<Self, NoMemory> {
+        PrefixEntry::copied(self)
+    }
+}
+
+/// A node's prefix record.
+#[derive(Drop)]
+pub struct PrefixDb {
+    pub node: Name,
+    /// At most 32.
+    pub entries: Seq<PrefixEntry>,
+}
+
+impl PrefixDb {
+    /// An equal record.
+    pub fn copied(&self) -> Result<Self, NoMemory>
+        ensures { IfOk result (λ copy. copy ≡ self.now) }
+    {
+        Ok(PrefixDb {
+            node: self.node.copied()?,
+            entries: self.entries.copied()?,
+        })
+    }
+}
+
+impl Copied for PrefixDb {
+    fn copied(&self) -> Result<Self, NoMemory> {
+        PrefixDb::copied(self)
+    }
+}

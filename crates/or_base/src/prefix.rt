@@ -1,0 +1,66 @@
+ghost use Rattle.std.specs.Prelude.{◌≡◌, ◌%◌, ◌^◌, ◌==◌, IsTrue, IfSome, is_some};
+ghost use Rattle.or_base.specs.Prefix.{is_prefix};
+
+use crate::memory::{Copied, NoMemory};
+
+/// An IP prefix, ordered by (v6, bits, len). Its length is at most 32 or 128; `bits` is the address as a number, below
+/// 2^32 for IPv4; no bit past the length is set (RFC 4291 for IPv6).
+#[derive(Clone, Copy, Debug, PartialEq, Eq, PartialOrd, Ord)]
+pub struct Prefix {
+    pub v6: bool,
+    pub bits: u128,
+    pub len: u8,
+    pub ghost sound: { IsTrue (is_prefix v6 bits len) },
+}
+
+impl Prefix {
+    /// The prefix, or None exactly where these are no prefix. It takes no memory.
+    pub fn new(v6: bool, bits: u128, len: u8) -> Option<Prefix>
+        ensures exactly { is_some result ≡ is_prefix v6 bits len }
+        ensures v6 { IfSome result (λ p. p.v6 ≡ v6) }
+        ensures bits { IfSome result (λ p. p.bits ≡ bits) }
+        ensures len { IfSome result (λ p. p.len ≡ len) }
+    {
+        if is_prefix(v6, bits, len) {
+            Some(Prefix { v6, bits, len })
+        } else {
+            None
+        }
+    }
+
+    /// An equal prefix. It takes no memory, and never fails.
+    pub fn copied(&self) -> Result<Self, NoMemory>
+        ensures { result ≡ Ok self.now }
+    {
+        Ok(*self)
+    }
+}
+
+impl Copied for Prefix {
+    fn copied(&self) -> Result<Self, NoMemory> {
+        Prefix::copied(self)
+    }
+}
+
+/// These are a prefix: the length and the number are within the address, and no bit past the length is set.
+fn is_prefix(v6: bool, bits: u128, len: u8) -> bool
+    ensures { result ≡ is_prefix v6 bits len }
+{
+    if v6 {
+        len <= 128 && ends_with_zeros(bits, 128 - len)
+    } else {
+        len <= 32 && bits <= u128::from(u32::MAX) && ends_with_zeros(bits, 32 - len)
+    }
+}
+
+/// The last `count` bits are 0.
+#[tactic(auto, using(crate::proofs::Remainders::remainder_of_all))]
+fn ends_with_zeros(bits: u128, count: u8) -> bool
+    ensures { result ≡ (bits % 2 ^ count == 0) }
+{
+    if 128 <= count {
+        bits == 0
+    } else {
+        bits % (1 << count) == 0
+    }
+}
