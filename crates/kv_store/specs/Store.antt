@@ -10,7 +10,7 @@ use Rattle.or_base.specs.declared.origin.Origin.TheVariants.{Local, Flood as Flo
 use Rattle.or_base.specs.declared.message.Msg.{Msg}
 use Rattle.or_base.specs.declared.message.Msg.TheVariants.{Flood}
 use Rattle.or_base.specs.declared.item.Item.{Item}
-use Rattle.or_base.specs.declared.item.Item.TheVariants.{Up, Set, PeerUp, Net}
+use Rattle.or_base.specs.declared.item.Item.TheVariants.{Set, PeerUp, Net}
 use Rattle.or_base.specs.Journal.{offer, is_taken}
 use Rattle.or_actor.specs.declared.output.Output.{Output}
 use Rattle.or_actor.specs.declared.output.Output.TheVariants.{To}
@@ -50,10 +50,11 @@ set_floods s pair = if is_taken s.journal pair then floods s.me pair s.peers els
 abbrev pub message_step : StoreState → Msg → StoreState
 message_step s (Flood passed pairs) =
     if list_any (bytes_eq s.me) passed then s else record s { journal = offer_all s.journal pairs s.moment Flooded }
+message_step s _ = s
 
 -- one turn of a store: the state after it, and what is sent
 abbrev pub store_step : StoreState → Item → StoreState × List Output
-store_step s Up = (s, [])
 store_step s (Set pair) = (record s { journal = offer s.journal pair s.moment Local }, set_floods s pair)
 store_step s (PeerUp link peer) = (record s { peers = insert_entry nat_cmp s.peers link peer }, [])
 store_step s (Net link from msg) = (message_step s msg, [])
+store_step s _ = (s, [])

@@ -108,6 +108,7 @@ impl KvModule {
                     )?;
                 }
             }
+            _other => {}
         }
         Ok(())
     }

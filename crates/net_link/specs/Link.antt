@@ -1,7 +1,7 @@
 use Rattle.std.specs.Prelude.{ℕ, List, [], ◌∷◌, Bool, true, if◌then◌else◌}
 use Rattle.std.specs.Str.{bytes_eq}
 use Rattle.or_base.specs.declared.item.Item.{Item}
-use Rattle.or_base.specs.declared.item.Item.TheVariants.{Up, Set, PeerUp, Net}
+use Rattle.or_base.specs.declared.item.Item.TheVariants.{Up, PeerUp, Net}
 use Rattle.or_actor.specs.declared.output.Output.{Output}
 use Rattle.or_actor.specs.declared.output.Output.TheVariants.{To}
 use Rattle.or_actor.specs.declared.ports.TheConstants.{STORE_PORT, STORE_PORT_AT_B}
@@ -27,5 +27,4 @@ carried s from item =
 abbrev pub link_step : LinkState → Item → LinkState × List Output
 link_step s Up = if s.is_up then (s, []) else (record s { is_up = true }, peers_told s)
 link_step s (Net link from msg) = (s, if s.is_up then carried s from (Net link from msg) else [])
-link_step s (Set pair) = (s, [])
-link_step s (PeerUp link peer) = (s, [])
+link_step s _ = (s, [])

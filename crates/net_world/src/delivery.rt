@@ -1,4 +1,4 @@
-ghost use Rattle.std.specs.Prelude.{◌≡◌, IsTrue, length, OnOk};
+ghost use Rattle.std.specs.Prelude.{◌≡◌, IsTrue, length, OnOk, OnErr};
 ghost use Rattle.or_actor.specs.Fits.{has_small_link, have_small_links};
 ghost use Rattle.net_record.specs.World.{lane_from, put, delivered};
 ghost use Rattle.net_world.specs.Sound.{StaySound};
@@ -21,6 +21,20 @@ fn lane_from(wires: &[Wire], writer: u32, port: u32) -> Option<usize>
 }
 
 /// Puts an item on a lane, or on none.
+fn put_on(lanes: &mut Vec<Lane>, number: Option<usize>, item: Stamped) -> Result<(), NoMemory>
+    ensures ok { OnOk result (lanes.new.items ≡ put lanes.old.items number item) }
+    ensures len { length lanes.new.items ≡ length lanes.old.items }
+    ensures err { OnErr result (lanes.new.items ≡ lanes.old.items) }
+{
+    if let Some(number) = number {
+        if let Some(lane) = lanes.get_mut(number) {
+            lane.put(item)?;
+        }
+    }
+    Ok(())
+}
+
+/// The same of an item that keeps lanes sound.
 #[tactic(auto, using(crate::proofs::Staying::staying))]
 fn put(lanes: &mut Vec<Lane>, number: Option<usize>, item: Stamped) -> Result<(), NoMemory>
     requires { IsTrue (has_small_link item.item) }
@@ -28,11 +42,7 @@ fn put(lanes: &mut Vec<Lane>, number: Option<usize>, item: Stamped) -> Result<()
     ensures len { length lanes.new.items ≡ length lanes.old.items }
     ensures sound { StaySound item.stamp lanes.old.items lanes.new.items }
 {
-    if let Some(number) = number {
-        if let Some(lane) = lanes.get_mut(number) {
-            lane.put(item)?;
-        }
-    }
+    put_on(lanes, number, item)?;
     Ok(())
 }
 

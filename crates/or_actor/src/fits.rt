@@ -8,8 +8,16 @@ pub fn has_small_link(item: &Item) -> bool
     ensures { result ≡ has_small_link item.now }
 {
     match item {
-        Item::Up | Item::Set { .. } => true,
-        Item::PeerUp { link, .. } => *link < 1 << 31,
-        Item::Net { link, .. } => *link < 1 << 31,
+        Item::Sync { link }
+        | Item::LinkDrain { link, .. }
+        | Item::Metric { link, .. }
+        | Item::LinkUp { link }
+        | Item::LinkDown { link }
+        | Item::NeighbourUp { link, .. }
+        | Item::NeighbourDown { link }
+        | Item::PeerUp { link, .. }
+        | Item::PeerDown { link }
+        | Item::Net { link, .. } => *link < 1 << 31,
+        _ => true,
     }
 }
