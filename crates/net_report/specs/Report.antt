@@ -1,9 +1,10 @@
-use Rattle.std.specs.Prelude.{ℕ, ◌+◌, ◌-◌, List, [], ◌∷◌, ◌++◌, Option, Some, None, codes, take}
+use Rattle.std.specs.Prelude.{ℕ, ◌+◌, ◌-◌, List, [], ◌∷◌, ◌++◌, Option, Some, None, codes, take, drop, Bool, true, false}
 use Rattle.std.specs.List.{flat_map}
 use Rattle.std.specs.Fmt.{decimal}
 use Rattle.hex.specs.Hex.{encode_lower}
 use Rattle.or_base.specs.declared.value.KvValue.{KvValue}
 use Rattle.or_base.specs.declared.entry.JournalEntry.{JournalEntry}
+use Rattle.or_base.specs.declared.item.TurnDone.{TurnDone}
 use Rattle.or_base.specs.Journal.{holds, held_keys}
 use Rattle.net_scenario.specs.declared.declared.NodeDecl.{NodeDecl}
 use Rattle.net_scenario.specs.declared.command.Command.{Command}
@@ -70,14 +71,26 @@ abbrev pub shown_text : Show → List NodeDecl → List (List JournalEntry) → 
 shown_text Stores nodes journals settle = stores_text nodes journals settle.nodes settle.moment
 shown_text Nothing nodes journals settle = []
 
--- the text of settles, of which the first is that of the first settle command and has the number k
-abbrev pub settles_text : ℕ → List Command → List SettleDone → List NodeDecl → List (List JournalEntry) → List ℕ
-settles_text k [] settles nodes journals = []
-settles_text k (Set node pair ∷ commands) settles nodes journals = settles_text k commands settles nodes journals
-settles_text k (Settle rounds show ∷ commands) [] nodes journals = []
-settles_text k (Settle rounds show ∷ commands) (settle ∷ settles) nodes journals =
-    settle_line k settle.moment ++ shown_text show nodes journals settle ++ settles_text (k + 1) commands settles nodes journals
+-- `{"do":"turn","lane":<lane>,"at":<at>}`
+unfoldable pub turn_line : TurnDone → List ℕ
+turn_line t = line (codes "{\"do\":\"turn\",\"lane\":" ++ decimal t.lane ++ codes ",\"at\":" ++ decimal t.at ++ codes "}")
 
--- the report of what was done in a laboratory
-unfoldable pub report : Record → Laboratory → List ℕ
-report done lab = settles_text 1 lab.commands done.settles lab.nodes done.journals ++ line (codes "end")
+-- turns, where a trace is wanted
+abbrev pub trace_text : Bool → List TurnDone → List ℕ
+trace_text false turns = []
+trace_text true turns = flat_map turn_line turns
+
+-- The text of settles, of which the first is that of the first settle command and has the number k. So many turns were
+-- done before its phase, and these are the turns from there on. With a trace the turns of each phase stand before its
+-- settle.
+abbrev pub settles_text : ℕ → Bool → ℕ → List TurnDone → List Command → List SettleDone → List NodeDecl → List (List JournalEntry) → List ℕ
+settles_text k trace before turns [] settles nodes journals = []
+settles_text k trace before turns (Set node pair ∷ commands) settles nodes journals = settles_text k trace before turns commands settles nodes journals
+settles_text k trace before turns (Settle rounds show ∷ commands) [] nodes journals = []
+settles_text k trace before turns (Settle rounds show ∷ commands) (settle ∷ settles) nodes journals =
+    trace_text trace (take (settle.turns - before) turns) ++ settle_line k settle.moment ++ shown_text show nodes journals settle
+    ++ settles_text (k + 1) trace settle.turns (drop (settle.turns - before) turns) commands settles nodes journals
+
+-- the report of what was done in a laboratory, with a trace or without
+unfoldable pub report : Record → Laboratory → Bool → List ℕ
+report done lab trace = settles_text 1 trace 0 done.turns lab.commands done.settles lab.nodes done.journals ++ line (codes "end")

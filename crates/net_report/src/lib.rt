@@ -20,14 +20,21 @@ use net_scenario::Scenario;
 use or_base::NoMemory;
 use std::alloc::Global;
 
-/// The report of a run of the scenario.
+/// The report of a run of the scenario, with a trace of its turns or without.
 #[tactic(auto, unfolding(crate::specs::Report::report))]
-pub fn report(alloc: Global, done: &Record, scenario: &Scenario) -> Result<Vec<u8>, NoMemory>
-    ensures { IfOk result (λ text. text.items ≡ report done.now scenario.now) }
+pub fn report(
+    alloc: Global,
+    done: &Record,
+    scenario: &Scenario,
+    trace: bool,
+) -> Result<Vec<u8>, NoMemory>
+    ensures { IfOk result (λ text. text.items ≡ report done.now scenario.now trace) }
 {
     let mut out = String::new(alloc);
     settles_text(
         &mut out,
+        trace,
+        done.turns.as_slice(),
         scenario.commands.as_slice(),
         done.settles.as_slice(),
         scenario.nodes.as_slice(),

@@ -1,10 +1,11 @@
 //! The single lines, each appended to the text and ended by LF.
 
 ghost use Rattle.std.specs.Prelude.{◌≡◌, ◌++◌, OnOk, string_bytes};
-ghost use Rattle.net_report.specs.Report.{settle_line, store_line, hex_text, left_text, key_line};
+ghost use Rattle.std.specs.Fmt.{decimal};
+ghost use Rattle.net_report.specs.Report.{settle_line, store_line, hex_text, left_text, key_line, turn_line};
 
 use net_record::NodeMark;
-use or_base::{Key, KvValue, Name, NoMemory};
+use or_base::{Key, KvValue, Name, NoMemory, TurnDone};
 
 /// `settle <k> moment <moment>`: the k-th settle, from 1, and its moment in milliseconds.
 #[tactic(auto, unfolding(crate::specs::Report::settle_line))]
@@ -81,5 +82,25 @@ pub(crate) fn key_line(
     write!(out, " {ttl_version} ")?;
     left_text(out, value.ttl, merged_at, moment)?;
     out.push_str("\n")?;
+    Ok(())
+}
+
+/// A text and then a number.
+fn text_and_number(out: &mut String, text: &str, number: u64) -> Result<(), NoMemory>
+    ensures { OnOk result (string_bytes out.new ≡ string_bytes out.old ++ (text.now ++ decimal number)) }
+{
+    out.push_str(text)?;
+    write!(out, "{number}")?;
+    Ok(())
+}
+
+/// `{"do":"turn","lane":<lane>,"at":<at>}`
+#[tactic(auto, unfolding(crate::specs::Report::turn_line))]
+pub(crate) fn turn_line(out: &mut String, turn: &TurnDone) -> Result<(), NoMemory>
+    ensures { OnOk result (string_bytes out.new ≡ string_bytes out.old ++ turn_line turn.now) }
+{
+    text_and_number(out, "{\"do\":\"turn\",\"lane\":", u64::from(turn.lane))?;
+    text_and_number(out, ",\"at\":", turn.at)?;
+    out.push_str("}\n")?;
     Ok(())
 }

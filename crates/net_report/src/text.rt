@@ -1,12 +1,12 @@
 //! What the lines make up: the stores of the nodes at a settle, and the settles of a run.
 
-ghost use Rattle.std.specs.Prelude.{◌≡◌, ◌++◌, OnOk, string_bytes};
-ghost use Rattle.net_report.specs.Report.{held_lines, store_text, stores_text, shown_text, settles_text};
+ghost use Rattle.std.specs.Prelude.{◌≡◌, ◌++◌, ◌-◌, OnOk, string_bytes, take, drop};
+ghost use Rattle.net_report.specs.Report.{held_lines, store_text, stores_text, shown_text, trace_text, settles_text};
 
-use crate::lines::{key_line, settle_line, store_line};
+use crate::lines::{key_line, settle_line, store_line, turn_line};
 use net_record::{NodeMark, SettleDone};
 use net_scenario::{Command, NodeDecl, Show};
-use or_base::{JournalEntry, Name, NoMemory, Seq, held_keys, held_under};
+use or_base::{JournalEntry, Name, NoMemory, Seq, TurnDone, held_keys, held_under};
 
 /// A line for each key that the journal holds, in byte order.
 fn held_lines(out: &mut String, journal: &[JournalEntry], moment: u64) -> Result<(), NoMemory>
@@ -70,26 +70,56 @@ fn shown_text(
     Ok(())
 }
 
-/// The settles, in order: the first is that of the first settle command and has the number 1.
+/// Turns, where a trace is wanted.
+fn trace_text(out: &mut String, trace: bool, turns: &[TurnDone]) -> Result<(), NoMemory>
+    ensures { OnOk result (string_bytes out.new ≡ string_bytes out.old ++ trace_text trace turns.now) }
+{
+    if trace {
+        for turn in turns {
+            turn_line(out, turn)?;
+        }
+    }
+    Ok(())
+}
+
+/// The turns of the next phase, where so many turns are done at its settle and so many were before it.
+fn phase_turns(turns: &[TurnDone], before: u64, done: u64) -> (&[TurnDone], &[TurnDone])
+    ensures phase { result.0.now ≡ take (done - before) turns.now }
+    ensures later { result.1.now ≡ drop (done - before) turns.now }
+{
+    let count = done.saturating_sub(before).min(turns.len() as u64);
+    turns.split_at(count as usize)
+}
+
+/// The settles, in order: the first is that of the first settle command and has the number 1. With a trace the turns
+/// of each phase stand before its settle.
 pub(crate) fn settles_text(
     out: &mut String,
+    trace: bool,
+    turns: &[TurnDone],
     commands: &[Command],
     settles: &[SettleDone],
     nodes: &[NodeDecl],
     journals: &[Seq<JournalEntry>],
 ) -> Result<(), NoMemory>
-    ensures { OnOk result (string_bytes out.new ≡ string_bytes out.old ++ settles_text 1 commands.now settles.now nodes.now journals.now) }
+    ensures { OnOk result (string_bytes out.new ≡ string_bytes out.old ++ settles_text 1 trace 0 turns.now commands.now settles.now nodes.now journals.now) }
 {
     let mut k = 1;
+    let mut before = 0;
+    let mut turns_left = turns;
     let mut left = settles;
     for command in commands {
         if let Command::Settle { show, .. } = command {
             let Some((settle, later)) = left.split_first() else {
                 return Ok(());
             };
+            let (phase, after) = phase_turns(turns_left, before, settle.turns);
+            trace_text(out, trace, phase)?;
             settle_line(out, k, settle.moment)?;
             shown_text(out, *show, nodes, journals, settle)?;
             k += 1;
+            before = settle.turns;
+            turns_left = after;
             left = later;
         }
     }

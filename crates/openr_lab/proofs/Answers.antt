@@ -1,5 +1,5 @@
 -- The answer to a scenario, from the record of its run.
-use Rattle.std.proofs.Common.{◌≡◌, ℕ, List, Some, sym, ◌∙◌, ap}
+use Rattle.std.proofs.Common.{◌≡◌, false, ℕ, List, Some, sym, ◌∙◌, ap}
 use Rattle.net_scenario.specs.Scenario.{Laboratory}
 use Rattle.net_record.specs.declared.record.Record.{Record}
 use Rattle.net_record.specs.Rounds.{round_robin}
@@ -8,7 +8,7 @@ use Rattle.net_report.specs.Report.{report}
 use Rattle.openr_lab.specs.Answer.{answer_after, answer_for, unsettled_line}
 
 -- a run that settled every phase
-pub answer_settled : (lab : Laboratory) (done : Record) (text : List ℕ) → IsSettled (round_robin lab) done → text ≡ report done lab
+pub answer_settled : (lab : Laboratory) (done : Record) (text : List ℕ) → IsSettled (round_robin lab) done → text ≡ report done lab false
     → record { status = 0; text = text; run = Some done } ≡ answer_for (Some lab)
 unfolding answer_for
 answer_settled lab done text settled e =

@@ -1,4 +1,4 @@
-use Rattle.std.specs.Prelude.{ℕ, List, ◌++◌, Option, Some, None, codes}
+use Rattle.std.specs.Prelude.{ℕ, List, ◌++◌, Option, Some, None, false, codes}
 use Rattle.std.specs.Fmt.{decimal}
 use Rattle.net_scenario.specs.Scenario.{Laboratory}
 use Rattle.net_scenario.specs.FirstForm.{first_form}
@@ -14,7 +14,7 @@ unsettled_line settle = line (codes "unsettled in settle " ++ decimal settle)
 
 -- the answer to a laboratory whose run by round robin ended so, with this record: its report, or which settle failed
 abbrev pub answer_after : Option ℕ → Record → Laboratory → Answer
-answer_after None done lab = record { status = 0; text = report done lab; run = Some done }
+answer_after None done lab = record { status = 0; text = report done lab false; run = Some done }
 answer_after (Some settle) done lab = record { status = 4; text = unsettled_line settle; run = Some done }
 
 -- the answer to bytes that are a scenario, or aren't

@@ -77,7 +77,7 @@ pub record IsReplay (lab : Laboratory) (text : List ℕ) (run : Option Record) :
   pub rounds : IsSettled (round_robin lab) done
   pub drained : EndsDrained lab
   pub is_run : IsRecordOf (run_of lab (schedule_of done.turns)) done
-  pub report : text ≡ report_of done lab
+  pub report : text ≡ report_of done lab false
 
 -- What status 0 says of the whole call: the source was read to its end, its bytes are a scenario, and the report of
 -- the scenario's run was written whole.

@@ -44,7 +44,7 @@ fn replay(alloc: Global, scenario: &Scenario) -> Result<Answer, NoMemory>
     match round_robin(alloc, scenario) {
         Ok(done) => Ok(Answer {
             status: 0,
-            text: Bytes::from_vec(report(alloc, &done, scenario)?),
+            text: Bytes::from_vec(report(alloc, &done, scenario, false)?),
             run: Some(done),
         }),
         Err(RunFault::Unsettled { settle, done }) => Ok(Answer {
