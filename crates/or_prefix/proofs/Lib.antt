@@ -1,0 +1,9 @@
+pub mod Cuts
+pub mod Numerals
+pub mod Octets
+pub mod GroupSteps
+pub mod Joins
+pub mod Doubles
+pub mod Shifts
+pub mod Forms
+pub mod Runs
