@@ -1,0 +1,5 @@
+pub mod Faultless
+pub mod Numbers
+pub mod Options
+pub mod Places
+pub mod Answered
