@@ -5,3 +5,4 @@ pub mod AnyOrder
 pub mod Keys
 pub mod HeldKeys
 pub mod Remainders
+pub mod Prefixes

@@ -4,4 +4,5 @@ pub mod Journal
 pub mod Law
 pub mod Stream
 pub mod Prefix
+pub mod Prefixes
 pub mod Memory

@@ -16,6 +16,10 @@ is_name_byte b = is_between 97 122 b || is_between 48 57 b || b == 45 || b == 95
 unfoldable pub is_node_name : List ℕ → Bool
 is_node_name name = is_between 1 20 (length name) && list_all is_name_byte name
 
+-- an interface's name has 1 to 24 such bytes
+unfoldable pub is_interface_name : List ℕ → Bool
+is_interface_name name = is_between 1 24 (length name) && list_all is_name_byte name
+
 -- a key has 1 to 128 printable ASCII bytes other than the space
 unfoldable pub is_key : List ℕ → Bool
 is_key key = is_between 1 128 (length key) && list_all (is_between 0x21 0x7e) key

@@ -1,4 +1,5 @@
 ghost use Rattle.std.specs.Prelude.{◌≡◌, IfOk};
+ghost use Rattle.or_base.specs.declared.item.Item.TheVariants.{Script, Persist, NeighbourUp, PeerUp, Net};
 
 use crate::act::Act;
 use crate::database::PrefixEntry;
@@ -133,37 +134,21 @@ impl Item {
         match self {
             Item::Up => Ok(Item::Up),
             Item::Down => Ok(Item::Down),
-            Item::Script { from, acts } => Ok(Item::Script {
-                from: from.copied()?,
-                acts: acts.copied()?,
-            }),
+            Item::Script { from, acts } => copied_script(from, acts),
             Item::Tick { at } => Ok(Item::Tick { at: *at }),
             Item::Set { pair } => Ok(Item::Set {
                 pair: pair.copied()?,
             }),
             Item::Sync { link } => Ok(Item::Sync { link: *link }),
             Item::Restart => Ok(Item::Restart),
-            Item::Persist { key, value, ttl } => Ok(Item::Persist {
-                key: key.copied()?,
-                value: value.copied()?,
-                ttl: *ttl,
-            }),
+            Item::Persist { key, value, ttl } => copied_persist(key, value, *ttl),
             Item::Unset { key } => Ok(Item::Unset { key: key.copied()? }),
             Item::Drain { on } => Ok(Item::Drain { on: *on }),
-            Item::LinkDrain { link, on } => Ok(Item::LinkDrain {
-                link: *link,
-                on: *on,
-            }),
-            Item::Metric { link, metric } => Ok(Item::Metric {
-                link: *link,
-                metric: *metric,
-            }),
+            &Item::LinkDrain { link, on } => Ok(Item::LinkDrain { link, on }),
+            &Item::Metric { link, metric } => Ok(Item::Metric { link, metric }),
             Item::Advertise { entry } => Ok(Item::Advertise { entry: *entry }),
             Item::Withdraw { prefix } => Ok(Item::Withdraw { prefix: *prefix }),
-            Item::Aggregate { prefix, min } => Ok(Item::Aggregate {
-                prefix: *prefix,
-                min: *min,
-            }),
+            &Item::Aggregate { prefix, min } => Ok(Item::Aggregate { prefix, min }),
             Item::Get { key } => Ok(Item::Get { key: key.copied()? }),
             Item::Ask { prefix } => Ok(Item::Ask { prefix: *prefix }),
             Item::LinkUp { link } => Ok(Item::LinkUp { link: *link }),
@@ -172,22 +157,11 @@ impl Item {
                 link,
                 peer,
                 peer_if,
-            } => Ok(Item::NeighbourUp {
-                link: *link,
-                peer: peer.copied()?,
-                peer_if: peer_if.copied()?,
-            }),
+            } => copied_neighbour(*link, peer, peer_if),
             Item::NeighbourDown { link } => Ok(Item::NeighbourDown { link: *link }),
-            Item::PeerUp { link, peer } => Ok(Item::PeerUp {
-                link: *link,
-                peer: peer.copied()?,
-            }),
+            Item::PeerUp { link, peer } => copied_peer(*link, peer),
             Item::PeerDown { link } => Ok(Item::PeerDown { link: *link }),
-            Item::Net { link, from, msg } => Ok(Item::Net {
-                link: *link,
-                from: from.copied()?,
-                msg: msg.copied()?,
-            }),
+            Item::Net { link, from, msg } => copied_net(*link, from, msg),
             Item::Entry { entry } => Ok(Item::Entry {
                 entry: entry.copied()?,
             }),
@@ -196,6 +170,59 @@ impl Item {
             }),
         }
     }
+}
+
+/// A Script of these.
+fn copied_script(from: &Name, acts: &Seq<Act>) -> Result<Item, NoMemory>
+    ensures { IfOk result (λ copy. copy ≡ Script from.now acts.now) }
+{
+    Ok(Item::Script {
+        from: from.copied()?,
+        acts: acts.copied()?,
+    })
+}
+
+/// A Persist of these.
+fn copied_persist(key: &Key, value: &Bytes, ttl: Option<u64>) -> Result<Item, NoMemory>
+    ensures { IfOk result (λ copy. copy ≡ Persist key.now value.now ttl) }
+{
+    Ok(Item::Persist {
+        key: key.copied()?,
+        value: value.copied()?,
+        ttl,
+    })
+}
+
+/// A NeighbourUp of these.
+fn copied_neighbour(link: u32, peer: &Name, peer_if: &Name) -> Result<Item, NoMemory>
+    ensures { IfOk result (λ copy. copy ≡ NeighbourUp link peer.now peer_if.now) }
+{
+    Ok(Item::NeighbourUp {
+        link,
+        peer: peer.copied()?,
+        peer_if: peer_if.copied()?,
+    })
+}
+
+/// A PeerUp of these.
+fn copied_peer(link: u32, peer: &Name) -> Result<Item, NoMemory>
+    ensures { IfOk result (λ copy. copy ≡ PeerUp link peer.now) }
+{
+    Ok(Item::PeerUp {
+        link,
+        peer: peer.copied()?,
+    })
+}
+
+/// A Net of these.
+fn copied_net(link: u32, from: &Name, msg: &Msg) -> Result<Item, NoMemory>
+    ensures { IfOk result (λ copy. copy ≡ Net link from.now msg.now) }
+{
+    Ok(Item::Net {
+        link,
+        from: from.copied()?,
+        msg: msg.copied()?,
+    })
 }
 
 impl Copied for Item {

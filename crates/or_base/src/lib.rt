@@ -9,7 +9,7 @@
 //!
 //! The files: `memory` (the one free error, and copies that may meet it), `text` and `seq` (newtypes that contracts
 //! see as lists), `prefix` (a prefix keeps no bit beyond its length), `value`, `entry`, `held`, `message`, `act`,
-//! `database`, `digest`, `route`, `item` (plain data that contracts see as it is), `journal` (the plain bodies of
+//! `database`, `digest`, `route`, `session`, `asked`, `item` (plain data that contracts see as it is), `journal` (the plain bodies of
 //! the journal's definitions), `limits`, and the streams: `stream` (the traits), `memory_stream` (fakes that fail on
 //! request), `real_stream` (the trusted edge). But for a prefix no type here keeps a limit: `limits` tests them.
 #![tactic(auto)]
@@ -17,6 +17,7 @@
 ghost use Rattle.or_base.specs.Law.{HoldsGreatest, LeavesSameInAnyOrder, HeldKeysAreThese};
 
 mod act;
+mod asked;
 mod database;
 mod digest;
 mod entry;
@@ -33,11 +34,13 @@ mod prefix;
 mod real_stream;
 mod route;
 mod seq;
+mod session;
 mod stream;
 mod text;
 mod value;
 
 pub use act::Act;
+pub use asked::{Asked, Told};
 pub use database::{AdjDb, Adjacency, PrefixDb, PrefixEntry};
 pub use digest::DigestRow;
 pub use entry::JournalEntry;
@@ -45,7 +48,9 @@ pub use held::Held;
 pub use item::{Item, Stamped, TurnDone};
 pub use journal::{held_keys, held_under};
 pub use kind::Kind;
-pub use limits::{is_key, is_node_name, is_valid_pair};
+pub use limits::{
+    has_key_bytes, has_name_bytes, is_interface_name, is_key, is_node_name, is_valid_pair,
+};
 pub use memory::{Copied, NoMemory};
 pub use memory_stream::{MemSink, MemSource, SINK_BYTES};
 pub use message::Msg;
@@ -54,6 +59,7 @@ pub use prefix::Prefix;
 pub use real_stream::{RealSink, RealSource};
 pub use route::{Delta, Route};
 pub use seq::{Seq, copied_items};
+pub use session::SyncDone;
 pub use stream::{ReadFault, Sink, Source, WriteFault};
 pub use text::{Bytes, Key, Name};
 pub use value::{KvValue, Pair};

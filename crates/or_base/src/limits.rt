@@ -1,6 +1,6 @@
 ghost use Rattle.std.specs.Prelude.{◌≡◌};
 ghost use Rattle.std.specs.List.{list_all};
-ghost use Rattle.or_base.specs.Limits.{is_between, is_name_byte, is_node_name, is_key, is_valid_value, is_valid_pair};
+ghost use Rattle.or_base.specs.Limits.{is_between, is_name_byte, is_node_name, is_interface_name, is_key, is_valid_value, is_valid_pair};
 
 use crate::value::{KvValue, Pair};
 
@@ -12,14 +12,14 @@ fn is_name_byte(b: u8) -> bool
 }
 
 /// Each byte may stand in a name.
-fn has_name_bytes(text: &[u8]) -> bool
+pub fn has_name_bytes(text: &[u8]) -> bool
     ensures { result ≡ list_all is_name_byte text.now }
 {
     text.iter().all(|&b| is_name_byte(b))
 }
 
 /// Each byte is from 0x21 to 0x7e.
-fn has_key_bytes(text: &[u8]) -> bool
+pub fn has_key_bytes(text: &[u8]) -> bool
     ensures { result ≡ list_all (is_between 0x21 0x7e) text.now }
 {
     text.iter().all(|&b| 0x21 <= b && b <= 0x7e)
@@ -31,6 +31,14 @@ pub fn is_node_name(name: &[u8]) -> bool
     ensures { result ≡ is_node_name name.now }
 {
     1 <= name.len() && name.len() <= 20 && has_name_bytes(name)
+}
+
+/// The text is an interface's name: 1 to 24 such characters.
+#[tactic(auto, unfolding(crate::specs::Limits::is_interface_name))]
+pub fn is_interface_name(name: &[u8]) -> bool
+    ensures { result ≡ is_interface_name name.now }
+{
+    1 <= name.len() && name.len() <= 24 && has_name_bytes(name)
 }
 
 /// The text is a key: 1 to 128 bytes from 0x21 to 0x7e.

@@ -1,4 +1,5 @@
 ghost use Rattle.std.specs.Prelude.{◌≡◌, IfOk};
+ghost use Rattle.or_base.specs.declared.message.Msg.TheVariants.{Hello, Reply};
 
 use crate::digest::DigestRow;
 use crate::memory::{Copied, NoMemory};
@@ -61,11 +62,7 @@ impl Msg {
                 iface,
                 heard,
                 restarting,
-            } => Ok(Msg::Hello {
-                iface: iface.copied()?,
-                heard: copied_name(heard)?,
-                restarting: *restarting,
-            }),
+            } => copied_hello(iface, heard, *restarting),
             Msg::Handshake { iface, done } => Ok(Msg::Handshake {
                 iface: iface.copied()?,
                 done: *done,
@@ -85,13 +82,7 @@ impl Msg {
                 pairs,
                 wanted,
                 withheld,
-            } => Ok(Msg::Reply {
-                session: *session,
-                b0: *b0,
-                pairs: pairs.copied()?,
-                wanted: wanted.copied()?,
-                withheld: *withheld,
-            }),
+            } => copied_reply(*session, *b0, pairs, wanted, *withheld),
             Msg::Push { session, pairs } => Ok(Msg::Push {
                 session: *session,
                 pairs: pairs.copied()?,
@@ -99,6 +90,36 @@ impl Msg {
             Msg::Ack { session } => Ok(Msg::Ack { session: *session }),
         }
     }
+}
+
+/// A Hello of these.
+fn copied_hello(iface: &Name, heard: &Option<Name>, restarting: bool) -> Result<Msg, NoMemory>
+    ensures { IfOk result (λ copy. copy ≡ Hello iface.now heard.now restarting) }
+{
+    Ok(Msg::Hello {
+        iface: iface.copied()?,
+        heard: copied_name(heard)?,
+        restarting,
+    })
+}
+
+/// A Reply of these.
+fn copied_reply(
+    session: u64,
+    b0: u64,
+    pairs: &Seq<Pair>,
+    wanted: &Seq<Key>,
+    withheld: u64,
+) -> Result<Msg, NoMemory>
+    ensures { IfOk result (λ copy. copy ≡ Reply session b0 pairs.now wanted.now withheld) }
+{
+    Ok(Msg::Reply {
+        session,
+        b0,
+        pairs: pairs.copied()?,
+        wanted: wanted.copied()?,
+        withheld,
+    })
 }
 
 impl Copied for Msg {

@@ -14,8 +14,12 @@ pub struct Prefix {
 }
 
 impl Prefix {
+    ghost use Rattle.or_base.specs.Prefixes.{prefix_from, is_same_prefix};
+
     /// The prefix, or None exactly where these are no prefix. It takes no memory.
+    #[tactic(auto, using(crate::proofs::Prefixes::prefix_from_parts, crate::proofs::Prefixes::prefix_from_none))]
     pub fn new(v6: bool, bits: u128, len: u8) -> Option<Prefix>
+        ensures prefix { result ≡ prefix_from v6 bits len }
         ensures exactly { is_some result ≡ is_prefix v6 bits len }
         ensures v6 { IfSome result (λ p. p.v6 ≡ v6) }
         ensures bits { IfSome result (λ p. p.bits ≡ bits) }
@@ -26,6 +30,13 @@ impl Prefix {
         } else {
             None
         }
+    }
+
+    /// The two are the same.
+    pub fn is_same(&self, other: &Prefix) -> bool
+        ensures { result ≡ is_same_prefix self.now other.now }
+    {
+        self == other
     }
 
     /// An equal prefix. It takes no memory, and never fails.

@@ -7,3 +7,4 @@ pub mod Doubles
 pub mod Shifts
 pub mod Forms
 pub mod Runs
+pub mod Lengths

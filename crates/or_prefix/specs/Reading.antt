@@ -4,6 +4,8 @@ use Rattle.std.specs.Prelude.{ℕ, ◌+◌, ◌-◌, ◌*◌, ◌%◌, ◌^◌, 
 use Rattle.std.specs.List.{list_all, list_any}
 use Rattle.or_base.specs.Limits.{is_between}
 use Rattle.or_base.specs.Prefix.{address_bits}
+use Rattle.or_base.specs.Prefixes.{prefix_from}
+use Rattle.or_base.specs.declared.prefix.Prefix.{Prefix}
 use Rattle.or_prefix.specs.declared.fault.PrefixFault.{PrefixFault}
 use Rattle.or_prefix.specs.declared.fault.PrefixFault.TheVariants.{BadForm, BadLength, HostBits}
 
@@ -125,3 +127,7 @@ fault_of None = Some BadForm
 fault_of (Some form) =
     if nat_lt (address_bits form.v6) form.len then Some BadLength
     else (if form.bits % 2 ^ (address_bits form.v6 - form.len) == 0 then None else Some HostBits)
+
+-- the prefix that a text says, if it says one
+unfoldable pub prefix_of : List ℕ → Option Prefix
+prefix_of text = option_and_then (λ form. prefix_from form.v6 form.bits form.len) (form_of text)

@@ -11,6 +11,11 @@ abbrev pub fault_in : Result Prefix PrefixFault → Option PrefixFault
 fault_in (Ok prefix) = None
 fault_in (Err fault) = Some fault
 
+-- the prefix of a read
+abbrev pub prefix_in : Result Prefix PrefixFault → Option Prefix
+prefix_in (Ok prefix) = Some prefix
+prefix_in (Err fault) = None
+
 -- an address and a length, as the form that a text has
 abbrev pub form_as : Address × ℕ → Form
 form_as form = record { v6 = form.0.v6; bits = form.0.bits; len = form.1 }

@@ -1,4 +1,5 @@
 ghost use Rattle.std.specs.Prelude.{◌≡◌, ◌+◌, ◌++◌, ◌^◌, ◌≤◌, ◌<◌, length, IfOk, OnOk, string_bytes};
+ghost use Rattle.std.specs.Str.{IsUtf8};
 ghost use Rattle.or_prefix.specs.Printing.{group_text, groups, longest_run, octets, prefix_text, run_start, v4_text, v6_text, zero_run};
 
 use or_base::{NoMemory, Prefix};
@@ -108,7 +109,8 @@ fn v4_text(out: &mut String, bits: u128) -> Result<(), NoMemory>
 /// The prefix as text: the address, `/` and the length.
 #[tactic(auto, unfolding(crate::specs::Printing::prefix_text))]
 pub fn print_prefix(alloc: Global, prefix: &Prefix) -> Result<Vec<u8>, NoMemory>
-    ensures { IfOk result (λ text. text.items ≡ prefix_text prefix.now.v6 prefix.now.bits prefix.now.len) }
+    ensures text { IfOk result (λ text. text.items ≡ prefix_text prefix.now.v6 prefix.now.bits prefix.now.len) }
+    ensures utf8 { IfOk result (λ text. IsUtf8 text.items) }
 {
     let mut out = String::new(alloc);
     if prefix.v6 {

@@ -1,7 +1,7 @@
 ghost use Rattle.std.specs.Prelude.{◌≡◌, Some, IfOk, IfSome};
 ghost use Rattle.std.specs.Option.{option_map};
-ghost use Rattle.or_prefix.specs.Reading.{address_of, fault_of, form_of, has_colon};
-ghost use Rattle.or_prefix.specs.Steps.{fault_in, form_as};
+ghost use Rattle.or_prefix.specs.Reading.{address_of, fault_of, form_of, has_colon, prefix_of};
+ghost use Rattle.or_prefix.specs.Steps.{fault_in, prefix_in, form_as};
 
 use crate::address::Address;
 use crate::decimal::read_short_decimal;
@@ -43,7 +43,9 @@ fn read_form(text: &[u8]) -> Option<(Address, u16)>
 }
 
 /// The prefix that a text says: an address, `/` and a length. It takes no memory.
+#[tactic(auto, unfolding(crate::specs::Reading::prefix_of), using(crate::proofs::Lengths::long_is_none))]
 pub fn read_prefix(text: &[u8]) -> Result<Prefix, PrefixFault>
+    ensures prefix { prefix_in result ≡ prefix_of text.now }
     ensures fault { fault_in result ≡ fault_of (form_of text.now) }
     ensures ok { IfOk result (λ p. form_of text.now ≡ Some (record { v6 = p.v6; bits = p.bits; len = p.len })) }
 {

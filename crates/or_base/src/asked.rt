@@ -1,0 +1,67 @@
+ghost use Rattle.std.specs.Prelude.{◌≡◌, IfOk};
+
+use crate::memory::{Copied, NoMemory};
+use crate::prefix::Prefix;
+use crate::route::Route;
+use crate::text::Key;
+use crate::value::KvValue;
+
+/// What a desk is asked.
+#[derive(Drop)]
+pub enum Asked {
+    /// What is held under the key.
+    Key(Key),
+    /// The route to the prefix.
+    Prefix(Prefix),
+}
+
+impl Asked {
+    /// An equal question.
+    pub fn copied(&self) -> Result<Self, NoMemory>
+        ensures { IfOk result (λ copy. copy ≡ self.now) }
+    {
+        match self {
+            Asked::Key(key) => Ok(Asked::Key(key.copied()?)),
+            Asked::Prefix(prefix) => Ok(Asked::Prefix(*prefix)),
+        }
+    }
+}
+
+impl Copied for Asked {
+    fn copied(&self) -> Result<Self, NoMemory> {
+        Asked::copied(self)
+    }
+}
+
+/// What a desk answers.
+#[derive(Drop)]
+pub enum Told {
+    /// The value held under the key.
+    Value(KvValue),
+    /// The route to the prefix.
+    Route(Route),
+    /// Nothing is held, or there is no route.
+    Nothing,
+    /// The desk found so many entries of the journal, which is fewer than it had seen.
+    Behind(u64),
+}
+
+impl Told {
+    /// An equal answer.
+    pub fn copied(&self) -> Result<Self, NoMemory>
+        ensures { IfOk result (λ copy. copy ≡ self.now) }
+    {
+        match self {
+            Told::Value(value) => Ok(Told::Value(value.copied()?)),
+            Told::Route(route) => Ok(Told::Route(route.copied()?)),
+            Told::Nothing => Ok(Told::Nothing),
+            Told::Behind(at) => Ok(Told::Behind(*at)),
+        }
+    }
+}
+
+impl Copied for Told {
+    fn copied(&self) -> Result<Self, NoMemory> {
+        Told::copied(self)
+    }
+}
