@@ -1,0 +1,182 @@
+-- The text of a prefix has that prefix as its reading, and the text of a prefix record has that record.
+use Rattle.std.proofs.Common.{◌≡◌, ℕ, ◌-◌, ◌^◌, ◌<◌, ◌≤◌, Bool, true, false, cond, List, [], ◌∷◌, ◌++◌, Option, Some, None, refl, ap, ◌∙◌, append_assoc, arith, ltb-true, leb-true, le-leb, codes, decimal}
+use Rattle.std.specs.List.{list_all}
+use Rattle.std.specs.Option.{option_map, option_and_then}
+use Rattle.std.proofs.lemmas.Bool.{and_parts, and_from}
+use Rattle.json.specs.Tree as tree
+use Rattle.json.proofs.Printed.Utf8.{IsUtf8-are_ascii}
+use Rattle.serde_json.specs.Data.{unsigned, number, string, array, object, Data, Items, no_items, item, no_members, member}
+use Rattle.serde_json.specs.Read.{of_json, of_items, max_depth}
+use Rattle.serde_json.specs.Written.{outline, items_outline}
+use Rattle.serde_json.proofs.Numbers.{number_of-decimal}
+use Rattle.or_base.specs.Limits.{is_between, is_node_name}
+use Rattle.or_base.specs.Prefix.{address_bits}
+use Rattle.or_base.specs.Prefixes.{prefix_from}
+use Rattle.or_base.specs.declared.prefix.Prefix.{Prefix}
+use Rattle.or_base.specs.declared.database.PrefixEntry.{PrefixEntry}
+use Rattle.or_base.specs.declared.database.PrefixDb.{PrefixDb}
+use Rattle.or_base.proofs.Prefixes.{prefix_from_parts}
+use Rattle.or_prefix.specs.Reading.{Form, is_digit, decimal_value, pieces, has_colon, address_of, form_from, form_of, prefix_of}
+use Rattle.or_prefix.specs.Printing.{groups, octets, v6_text, v4_text, prefix_text}
+use Rattle.or_json.specs.Writing.{entry_data, entries_data, prefixes_data, prefixes_text}
+use Rattle.or_json.specs.Reading.{entry_of, entries_of, are_entries, prefix_db_of, prefixes_of, is_entry_within, is_prefix_record}
+use Rattle.or_json.proofs.Ascii.{node_name_utf8, prefix_utf8}
+use Rattle.or_json.proofs.Simple.{IsSimple, AreSimple, json_in_text}
+use Rattle.or_json.proofs.Cuts.{passing, pieces_whole, pieces_cut}
+use Rattle.or_json.proofs.Digits.{octet_again, decimal_again}
+use Rattle.or_json.proofs.Addresses.{IsAddress, is_address}
+
+-- ---- the prefix
+
+formed : Bool → ℕ → Option ℕ → Option Form
+formed v6 len bits = option_map (λ b. record { v6 = v6; bits = b; len = len }) bits
+
+form_again : (v6 : Bool) (bits len : ℕ) (address : List ℕ) → IsAddress v6 bits address → len < 256
+    → form_of ((address ++ codes "/") ++ decimal len) ≡ Some (record { v6 = v6; bits = bits; len = len })
+unfolding form_of formed
+form_again v6 bits len address is small =
+    let short = and_parts _ _ (octet_again len small) in
+    let digits = and_parts _ _ (and_parts _ _ short.0).0 in
+    ap (λ text. form_from (pieces 47 text)) (append_assoc address (codes "/") (decimal len))
+    ∙ ap form_from (pieces_cut 47 address (decimal len) is.free ∙ ap (λ ps. address ∷ ps) (pieces_whole 47 (decimal len) (passing is_digit 47 (decimal len) refl digits.1)))
+    ∙ ap (λ t. cond t (formed (has_colon address) (decimal_value (decimal len)) (address_of address)) None) short.0
+    ∙ ap (λ a. formed (has_colon address) (decimal_value (decimal len)) a) is.address
+    ∙ ap (λ t. Some (record { v6 = t; bits = bits; len = decimal_value (decimal len) })) is.colon
+    ∙ ap (λ n. Some (record { v6 = v6; bits = bits; len = n })) (decimal_again len small)
+
+width : (v6 : Bool) (len : ℕ) → len ≤ address_bits v6 → len < 256
+width true len fits = omega arith
+width false len fits = omega arith
+
+pub prefix_again : (p : Prefix) → prefix_of (prefix_text p.v6 p.bits p.len) ≡ Some p
+unfolding prefix_of prefix_text
+prefix_again p =
+    let parts = and_parts _ _ (and_parts _ _ p.sound).0 in
+    let address = is_address p.v6 p.bits (ltb-true _ _ parts.1) in
+    let small = width p.v6 p.len (leb-true _ _ parts.0) in
+    ap (option_and_then (λ form. prefix_from form.v6 form.bits form.len)) (form_again p.v6 p.bits p.len (cond p.v6 (v6_text (groups p.bits)) (v4_text (octets p.bits))) address small)
+    ∙ prefix_from_parts p.v6 p.bits p.len p.sound
+
+-- ---- the entries
+
+record Within (e : PrefixEntry) : Type 0 where
+  path : e.path ≤ 2 ^ 31 - 1
+  source : e.source ≤ 2 ^ 31 - 1
+  distance : e.distance ≤ 2 ^ 31 - 1
+
+within : (e : PrefixEntry) → is_entry_within e ≡ true → Within e
+within e is =
+    let last = and_parts _ _ is in
+    let first = and_parts _ _ last.0 in
+    record { path = leb-true _ _ first.0; source = leb-true _ _ first.1; distance = leb-true _ _ last.1 }
+
+between : (n : ℕ) → n ≤ 2 ^ 31 - 1 → is_between 0 (2 ^ 31 - 1) n ≡ true
+between n fits = and_from _ _ (le-leb 0 n (omega arith)) (le-leb n (2 ^ 31 - 1) fits)
+
+-- the same members in the order of their names
+entry_read : PrefixEntry → Data
+entry_read e =
+    object
+    (member (codes "distance") (number (unsigned e.distance))
+    (member (codes "path") (number (unsigned e.path))
+    (member (codes "prefix") (string (prefix_text e.prefix.v6 e.prefix.bits e.prefix.len))
+    (member (codes "source") (number (unsigned e.source)) no_members))))
+
+entries_read : List PrefixEntry → Items
+entries_read [] = no_items
+entries_read (e ∷ entries) = item (entry_read e) (entries_read entries)
+
+prefixes_read : PrefixDb → Data
+prefixes_read db = object (member (codes "entries") (array (entries_read db.entries)) (member (codes "node") (string db.node) no_members))
+
+entry_says : (e : PrefixEntry) → Within e → of_json (outline (entry_data e)) ≡ Some (entry_read e)
+unfolding entry_data entry_read
+entry_says e w =
+    let path : e.path < 2 ^ 64 = omega (arith, w.path) in
+    let source : e.source < 2 ^ 64 = omega (arith, w.source) in
+    let distance : e.distance < 2 ^ 64 = omega (arith, w.distance) in
+    rw (number_of-decimal e.path path) (rw (number_of-decimal e.source source) (rw (number_of-decimal e.distance distance) refl))
+
+entries_say : (entries : List PrefixEntry) → list_all is_entry_within entries ≡ true → of_items (items_outline (entries_data entries)) ≡ Some (entries_read entries)
+unfolding entries_read
+entries_say [] all = refl
+entries_say (e ∷ entries) all =
+    let parts = and_parts _ _ all in
+    ap (option_and_then (λ d. option_map (item d) (of_items (items_outline (entries_data entries))))) (entry_says e (within e parts.0))
+    ∙ ap (option_map (item (entry_read e))) (entries_say entries parts.1)
+
+entry_again : (e : PrefixEntry) → Within e → entry_of (entry_read e) ≡ Some e
+unfolding entry_of entry_read
+entry_again e w =
+    rw (prefix_again e.prefix) (rw (between e.path w.path) (rw (between e.source w.source) (rw (between e.distance w.distance) refl)))
+
+entries_again : (entries : List PrefixEntry) → list_all is_entry_within entries ≡ true → entries_of (entries_read entries) ≡ Some entries
+unfolding entries_read
+entries_again [] all = refl
+entries_again (e ∷ entries) all =
+    let parts = and_parts _ _ all in
+    rw (entry_again e (within e parts.0)) (rw (entries_again entries parts.1) refl)
+
+entry_simple : (e : PrefixEntry) → Within e → IsSimple (entry_data e)
+unfolding entry_data
+entry_simple e w =
+    let path : e.path < 2 ^ 64 = omega (arith, w.path) in
+    let source : e.source < 2 ^ 64 = omega (arith, w.source) in
+    let distance : e.distance < 2 ^ 64 = omega (arith, w.distance) in (
+      IsUtf8-are_ascii _ refl,
+      prefix_utf8 e.prefix.v6 e.prefix.bits e.prefix.len,
+      (
+        IsUtf8-are_ascii _ refl,
+        path,
+        (IsUtf8-are_ascii _ refl, source, (IsUtf8-are_ascii _ refl, distance, tt)),
+      ),
+    )
+
+entries_simple : (entries : List PrefixEntry) → list_all is_entry_within entries ≡ true → AreSimple (entries_data entries)
+entries_simple [] all = tt
+entries_simple (e ∷ entries) all =
+    let parts = and_parts _ _ all in
+    (entry_simple e (within e parts.0), entries_simple entries parts.1)
+
+entry_depth : (e : PrefixEntry) → tree.depth (outline (entry_data e)) ≤ 1
+unfolding entry_data
+entry_depth e = omega arith
+
+entries_depth : (entries : List PrefixEntry) → tree.items_depth (items_outline (entries_data entries)) ≤ 1
+entries_depth [] = omega arith
+entries_depth (e ∷ entries) = omega (arith, entry_depth e, entries_depth entries)
+
+-- ---- the whole record
+
+prefixes_depth : (db : PrefixDb) → tree.depth (outline (prefixes_data db)) ≤ max_depth
+unfolding prefixes_data
+prefixes_depth db = omega (arith, entries_depth db.entries)
+
+record Limits (db : PrefixDb) : Type 0 where
+  node : is_node_name db.node ≡ true
+  each : list_all is_entry_within db.entries ≡ true
+  all : are_entries db.entries ≡ true
+
+limits : (db : PrefixDb) → is_prefix_record db ≡ true → Limits db
+unfolding is_prefix_record
+limits db is =
+    let last = and_parts _ _ is in
+    let first = and_parts _ _ last.0 in
+    record { node = first.0; each = first.1; all = last.1 }
+
+prefixes_simple : (db : PrefixDb) → Limits db → IsSimple (prefixes_data db)
+unfolding prefixes_data
+prefixes_simple db l = (IsUtf8-are_ascii _ refl, node_name_utf8 db.node l.node, (IsUtf8-are_ascii _ refl, entries_simple db.entries l.each, tt))
+
+prefixes_say : (db : PrefixDb) → Limits db → of_json (outline (prefixes_data db)) ≡ Some (prefixes_read db)
+unfolding prefixes_data prefixes_read
+prefixes_say db l = rw (entries_say db.entries l.each) refl
+
+prefix_db_again : (db : PrefixDb) → Limits db → prefix_db_of (prefixes_read db) ≡ Some db
+unfolding prefix_db_of prefixes_read
+prefix_db_again db l = rw (l.node, entries_again db.entries l.each) (rw l.all refl)
+
+pub prefixes_again : (db : PrefixDb) → is_prefix_record db ≡ true → prefixes_of (prefixes_text db) ≡ Some db
+prefixes_again db is =
+    let l = limits db is in
+    ap (option_and_then prefix_db_of) (json_in_text (prefixes_data db) (prefixes_read db) (prefixes_simple db l) (prefixes_depth db) (prefixes_say db l)) ∙ prefix_db_again db l

@@ -1,0 +1,25 @@
+//! The records that nodes publish, as text: link records under `adj:<node>` and prefix records under `prefix:<node>`.
+//!
+//! A record is written as JSON (RFC 8259) without spaces, its members in a fixed order (`specs/Writing.antt`). A text
+//! is read wherever `serde_json` reads it and what it says keeps the limits, with members in any order and others
+//! ignored (`specs/Reading.antt`). The functions write exactly that text and give exactly that reading, None included,
+//! and the text of a record that keeps the limits has that record as its reading.
+//!
+//! The files: `member` (single members, written by the writer of `json`, which keeps their order), `adj_write` and
+//! `prefix_write`, `object` (single members, read), `adj_read` and `prefix_read`. That a text is read again is proved
+//! over the definitions, in `proofs/LinksAgain.antt` and `proofs/PrefixesAgain.antt`.
+#![tactic(auto)]
+
+mod adj_read;
+mod adj_write;
+mod member;
+mod object;
+mod prefix_read;
+mod prefix_write;
+#[cfg(test)]
+mod tests;
+
+pub use adj_read::adj_of_text;
+pub use adj_write::adj_to_text;
+pub use prefix_read::prefixes_of_text;
+pub use prefix_write::prefixes_to_text;
