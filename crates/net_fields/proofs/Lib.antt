@@ -1,0 +1,4 @@
+pub mod Elsewhere
+pub mod Lines
+pub mod Lists
+pub mod HexBytes
