@@ -1,6 +1,6 @@
 -- The lanes of two linked stores. The actors are 0 the driver, 1 and 2 the store and the desk of a, 3 and 4 those of b,
 -- and 5 the link.
-use Rattle.std.proofs.Common.{◌≡◌, ℕ, [], ◌∷◌, refl}
+use Rattle.std.proofs.Common.{◌≡◌, ℕ, None, [], ◌∷◌, refl}
 use Rattle.std.specs.Prelude.{codes}
 use Rattle.or_base.specs.declared.kind.Kind.TheVariants.{Stores}
 use Rattle.net_scenario.specs.Scenario.{Laboratory}
@@ -11,9 +11,11 @@ use Rattle.net_record.specs.Wires.{wires}
 abbrev two_stores : Laboratory
 two_stores = record {
   kind = Stores;
-  nodes = record { name = codes "a" } ∷ record { name = codes "b" } ∷ [];
-  links = record { a = codes "a"; b = codes "b" } ∷ [];
+  ttl = None;
+  nodes = record { name = codes "a"; faults = [] } ∷ record { name = codes "b"; faults = [] } ∷ [];
+  links = record { a = codes "a"; aif = codes "if-b"; am = 1; b = codes "b"; bif = codes "if-a"; bm = 1 } ∷ [];
   commands = [];
+  turns = None;
 }
 
 abbrev lane : ℕ → ℕ → ℕ → Wire

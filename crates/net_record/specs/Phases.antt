@@ -16,13 +16,14 @@ ups all number [] = []
 ups all number (link ∷ links) = To (number_of (is_link number) 0 all) Up ∷ ups all (number + 1) links
 
 -- The phases of commands, where the driver has these items for the first of them already. A phase is the commands up
--- to and with a settle.
+-- to and with a settle. Only sets have an item yet; the program runs no scenario with another command.
 abbrev pub phases_from : List Role → List Output → List Command → List Phase
 phases_from all issues [] = []
 phases_from all issues (Settle rounds show ∷ commands) =
     record { issues = issues; rounds = rounds } ∷ phases_from all [] commands
 phases_from all issues (Set node pair ∷ commands) =
     phases_from all (issues ++ To (number_of (is_store_of node) 0 all) (SetItem pair) ∷ []) commands
+phases_from all issues (other ∷ commands) = phases_from all issues commands
 
 -- the phases of a laboratory; its links belong to the first
 abbrev pub phases : Laboratory → List Phase

@@ -138,19 +138,21 @@ abbrev pub greatest_clock : List ActorState → ℕ
 greatest_clock [] = 0
 greatest_clock (actor ∷ actors) = max actor.clock (greatest_clock actors)
 
--- what a settle tells of an actor: of a store the length of its journal and its count of stale messages
+-- what a settle tells of an actor: of a store the length of its journal and its count of stale messages. No full sync
+-- and no route is made yet.
 abbrev pub mark_of : Part → List NodeMark
 mark_of Driver = []
 mark_of Desk = []
 mark_of (Link s) = []
-mark_of (Store s) = record { entries = length s.journal; stale = s.stale } ∷ []
+mark_of (Store s) =
+    record { entries = length s.journal; stale = s.stale; syncs = []; routes = []; fib_dirty = false; fib_routes = 0 } ∷ []
 
 abbrev pub marks_of : List ActorState → List NodeMark
 marks_of actors = flat_map (λ actor. mark_of actor.part) actors
 
--- what a settle tells; no command sets a moment, so it is 0
+-- what a settle tells; no command that runs sets a moment or asks, so the moment is 0 and there are no answers
 abbrev pub settle_done : WorldState → SettleDone
-settle_done w = record { turns = length w.turns; moment = 0; nodes = marks_of w.actors }
+settle_done w = record { turns = length w.turns; moment = 0; nodes = marks_of w.actors; answers = [] }
 
 abbrev pub with_clock : ℕ → ActorState → ActorState
 with_clock clock actor = record { part = actor.part; clock = clock }

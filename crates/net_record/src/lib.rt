@@ -31,7 +31,7 @@ pub use numbering::{MOST_ACTORS, roles};
 pub use part::Part;
 pub use phase::Phase;
 pub use phasing::phases;
-pub use record::{NodeMark, Record, SettleDone};
+pub use record::{AnswerDone, NodeMark, Record, SettleDone};
 pub use role::{NodeModule, Role};
 pub use stores::{journals_of, marks_of};
 pub use wire::Wire;

@@ -109,6 +109,8 @@ fn phases_from(
                     item: Item::Set { pair },
                 })?;
             }
+            // The program runs no other command yet.
+            _other => {}
         }
     }
     Ok(phases)

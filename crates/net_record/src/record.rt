@@ -1,12 +1,29 @@
-use or_base::{JournalEntry, Seq, TurnDone};
+use or_base::{Asked, JournalEntry, Name, Route, Seq, SyncDone, Told, TurnDone};
 
-/// A node's store at a settle.
-#[derive(Clone, Copy, Debug, PartialEq, Eq)]
+/// A node at a settle.
+#[derive(Drop)]
 pub struct NodeMark {
-    /// The length of its journal.
+    /// The length of its store's journal.
     pub entries: u64,
-    /// How many stale messages it has met.
+    /// How many stale messages its store has met.
     pub stale: u64,
+    /// The full syncs that its store started and that were finished in this phase, in order.
+    pub syncs: Seq<SyncDone>,
+    /// Its routes, in prefix order, where the settle shows routes.
+    pub routes: Seq<Route>,
+    /// Its forwarding agent lacks some of its routes.
+    pub fib_dirty: bool,
+    /// How many routes the agent has.
+    pub fib_routes: u64,
+}
+
+/// A question that was answered.
+#[derive(Drop)]
+pub struct AnswerDone {
+    /// The node whose desk was asked.
+    pub node: Name,
+    pub asked: Asked,
+    pub told: Told,
 }
 
 /// A settle that was done.
@@ -18,6 +35,8 @@ pub struct SettleDone {
     pub moment: u64,
     /// One mark a node, in the order of their declarations.
     pub nodes: Seq<NodeMark>,
+    /// The answers of the phase, in the order of the commands.
+    pub answers: Seq<AnswerDone>,
 }
 
 /// What was done in a run.

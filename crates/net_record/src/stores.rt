@@ -18,6 +18,10 @@ pub fn marks_of(alloc: Global, actors: &[ActorState]) -> Result<Vec<NodeMark>, N
             marks.push(NodeMark {
                 entries: store.table().journal().len() as u64,
                 stale: store.stale(),
+                syncs: Seq::from_vec(Vec::new(alloc)),
+                routes: Seq::from_vec(Vec::new(alloc)),
+                fib_dirty: false,
+                fib_routes: 0,
             })?;
         }
     }

@@ -1,3 +1,4 @@
 pub mod Stores
 pub mod Examples
 pub mod Parts
+pub mod Hops

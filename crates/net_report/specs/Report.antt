@@ -1,17 +1,29 @@
-use Rattle.std.specs.Prelude.{ℕ, ◌+◌, ◌-◌, List, [], ◌∷◌, ◌++◌, Option, Some, None, codes, take, drop, Bool, true, false}
+-- The text of what was done in a laboratory.
+use Rattle.std.specs.Prelude.{ℕ, ◌+◌, ◌-◌, List, [], ◌∷◌, ◌++◌, Option, Some, None, codes, take, drop, Bool, true, false, if◌then◌else◌}
 use Rattle.std.specs.List.{flat_map}
 use Rattle.std.specs.Fmt.{decimal}
 use Rattle.hex.specs.Hex.{encode_lower}
-use Rattle.or_base.specs.declared.value.KvValue.{KvValue}
+use Rattle.or_base.specs.declared.asked.Asked.{Asked}
+use Rattle.or_base.specs.declared.asked.Asked.TheVariants as asked
+use Rattle.or_base.specs.declared.asked.Told.{Told}
+use Rattle.or_base.specs.declared.asked.Told.TheVariants as told
 use Rattle.or_base.specs.declared.entry.JournalEntry.{JournalEntry}
 use Rattle.or_base.specs.declared.item.TurnDone.{TurnDone}
+use Rattle.or_base.specs.declared.kind.Kind.{Kind}
+use Rattle.or_base.specs.declared.kind.Kind.TheVariants as kind
+use Rattle.or_base.specs.declared.prefix.Prefix.{Prefix}
+use Rattle.or_base.specs.declared.route.Route.{Route}
+use Rattle.or_base.specs.declared.session.SyncDone.{SyncDone}
+use Rattle.or_base.specs.declared.value.KvValue.{KvValue}
 use Rattle.or_base.specs.Journal.{holds, held_keys}
+use Rattle.or_prefix.specs.Printing.{prefix_text}
+use Rattle.net_fields.specs.declared.show.Show.{Show}
+use Rattle.net_fields.specs.declared.show.Show.TheVariants as show
 use Rattle.net_scenario.specs.declared.declared.NodeDecl.{NodeDecl}
 use Rattle.net_scenario.specs.declared.command.Command.{Command}
-use Rattle.net_scenario.specs.declared.command.Command.TheVariants.{Settle, Set}
-use Rattle.net_scenario.specs.declared.show.Show.{Show}
-use Rattle.net_scenario.specs.declared.show.Show.TheVariants.{Stores, Nothing}
+use Rattle.net_scenario.specs.declared.command.Command.TheVariants.{Settle}
 use Rattle.net_scenario.specs.Scenario.{Laboratory}
+use Rattle.net_record.specs.declared.record.AnswerDone.{AnswerDone}
 use Rattle.net_record.specs.declared.record.NodeMark.{NodeMark}
 use Rattle.net_record.specs.declared.record.SettleDone.{SettleDone}
 use Rattle.net_record.specs.declared.record.Record.{Record}
@@ -54,9 +66,17 @@ held_line key (Some held) moment = key_line key held.0 held.1 moment
 abbrev pub held_lines : List JournalEntry → ℕ → List ℕ
 held_lines journal moment = flat_map (λ key. held_line key (holds journal key) moment) (held_keys journal)
 
--- a node's store at a settle: what the first entries of its journal hold, as many as it had then
+-- `sync <link> <session> <a0> <b0> <withheld>`
+unfoldable pub sync_line : SyncDone → List ℕ
+sync_line s =
+    line (codes "sync " ++ decimal s.link ++ codes " " ++ decimal s.session ++ codes " " ++ decimal s.a0 ++ codes " " ++ decimal s.b0
+    ++ codes " " ++ decimal s.withheld)
+
+-- a node's store at a settle: what the first entries of its journal hold, as many as it had then, and the full syncs that
+-- it started and that were finished in the phase
 unfoldable pub store_text : List ℕ → List JournalEntry → NodeMark → ℕ → List ℕ
-store_text node journal mark moment = store_line node mark ++ held_lines (take mark.entries journal) moment
+store_text node journal mark moment =
+    store_line node mark ++ held_lines (take mark.entries journal) moment ++ flat_map sync_line mark.syncs
 
 -- the stores of the nodes, in order
 abbrev pub stores_text : List NodeDecl → List (List JournalEntry) → List NodeMark → ℕ → List ℕ
@@ -66,10 +86,87 @@ stores_text (node ∷ nodes) (journal ∷ journals) [] moment = []
 stores_text (node ∷ nodes) (journal ∷ journals) (mark ∷ marks) moment =
     store_text node.name journal mark moment ++ stores_text nodes journals marks moment
 
--- what a settle shows besides its line
-abbrev pub shown_text : Show → List NodeDecl → List (List JournalEntry) → SettleDone → List ℕ
-shown_text Stores nodes journals settle = stores_text nodes journals settle.nodes settle.moment
-shown_text Nothing nodes journals settle = []
+-- ---- routes
+
+-- texts joined by commas
+abbrev pub joined : List (List ℕ) → List ℕ
+joined [] = []
+joined (text ∷ []) = text
+joined (text ∷ next ∷ texts) = text ++ codes "," ++ joined (next ∷ texts)
+
+abbrev pub prefix_of : Prefix → List ℕ
+prefix_of p = prefix_text p.v6 p.bits p.len
+
+-- `<cost> <hops>`
+abbrev pub cost_and_hops : Route → List ℕ
+cost_and_hops r = decimal r.cost ++ codes " " ++ joined r.hops
+
+-- `route <prefix> <cost> <hops>`
+unfoldable pub route_line : Route → List ℕ
+route_line r = line (codes "route " ++ prefix_of r.prefix ++ codes " " ++ cost_and_hops r)
+
+-- `routes <node>`
+unfoldable pub routes_line : List ℕ → List ℕ
+routes_line node = line (codes "routes " ++ node)
+
+abbrev pub fib_word : Bool → List ℕ
+fib_word true = codes "fib dirty "
+fib_word false = codes "fib clean "
+
+-- `fib clean <n>` or `fib dirty <n>`: the agent lacks some of the routes or none, and has so many
+unfoldable pub fib_line : NodeMark → List ℕ
+fib_line mark = line (fib_word mark.fib_dirty ++ decimal mark.fib_routes)
+
+-- a node's routes at a settle
+unfoldable pub node_routes_text : List ℕ → NodeMark → List ℕ
+node_routes_text node mark = routes_line node ++ flat_map route_line mark.routes ++ fib_line mark
+
+-- the routes of the nodes, in order
+abbrev pub routes_text : List NodeDecl → List NodeMark → List ℕ
+routes_text [] marks = []
+routes_text (node ∷ nodes) [] = []
+routes_text (node ∷ nodes) (mark ∷ marks) = node_routes_text node.name mark ++ routes_text nodes marks
+
+-- ---- answers
+
+-- `get <node> <key>` or `ask <node> <prefix>`
+abbrev pub question_text : List ℕ → Asked → List ℕ
+question_text node (asked.Key key) = codes "get " ++ node ++ codes " " ++ key
+question_text node (asked.Prefix prefix) = codes "ask " ++ node ++ codes " " ++ prefix_of prefix
+
+-- `value <version> <originator> <hex> <ttl version>`, `route <cost> <hops>`, `none` or `behind <at>`
+abbrev pub told_text : Told → List ℕ
+told_text (told.Value v) =
+    codes " value " ++ decimal v.version ++ codes " " ++ v.originator ++ codes " " ++ hex_text v.value ++ codes " " ++ decimal v.ttl_version
+told_text (told.Route r) = codes " route " ++ cost_and_hops r
+told_text told.Nothing = codes " none"
+told_text (told.Behind at) = codes " behind " ++ decimal at
+
+-- a question with its answer
+unfoldable pub answer_line : AnswerDone → List ℕ
+answer_line a = line (question_text a.node a.asked ++ told_text a.told)
+
+-- ---- settles
+
+abbrev pub shows_stores : Show → Bool
+shows_stores show.Both = true
+shows_stores show.Stores = true
+shows_stores show.Routes = false
+shows_stores show.Nothing = false
+
+-- stores have no routes to show
+abbrev pub shows_routes : Kind → Show → Bool
+shows_routes kind.Stores s = false
+shows_routes kind.Full show.Both = true
+shows_routes kind.Full show.Stores = false
+shows_routes kind.Full show.Routes = true
+shows_routes kind.Full show.Nothing = false
+
+-- what a settle shows besides its line and the answers
+unfoldable pub shown_text : Kind → Show → List NodeDecl → List (List JournalEntry) → SettleDone → List ℕ
+shown_text kind s nodes journals settle =
+    (if shows_stores s then stores_text nodes journals settle.nodes settle.moment else [])
+    ++ (if shows_routes kind s then routes_text nodes settle.nodes else [])
 
 -- `{"do":"turn","lane":<lane>,"at":<at>}`
 unfoldable pub turn_line : TurnDone → List ℕ
@@ -80,17 +177,24 @@ abbrev pub trace_text : Bool → List TurnDone → List ℕ
 trace_text false turns = []
 trace_text true turns = flat_map turn_line turns
 
+-- a settle with its number
+unfoldable pub settle_text : ℕ → Kind → Show → List NodeDecl → List (List JournalEntry) → SettleDone → List ℕ
+settle_text k kind s nodes journals settle =
+    settle_line k settle.moment ++ flat_map answer_line settle.answers ++ shown_text kind s nodes journals settle
+
 -- The text of settles, of which the first is that of the first settle command and has the number k. So many turns were
 -- done before its phase, and these are the turns from there on. With a trace the turns of each phase stand before its
 -- settle.
-abbrev pub settles_text : ℕ → Bool → ℕ → List TurnDone → List Command → List SettleDone → List NodeDecl → List (List JournalEntry) → List ℕ
-settles_text k trace before turns [] settles nodes journals = []
-settles_text k trace before turns (Set node pair ∷ commands) settles nodes journals = settles_text k trace before turns commands settles nodes journals
-settles_text k trace before turns (Settle rounds show ∷ commands) [] nodes journals = []
-settles_text k trace before turns (Settle rounds show ∷ commands) (settle ∷ settles) nodes journals =
-    trace_text trace (take (settle.turns - before) turns) ++ settle_line k settle.moment ++ shown_text show nodes journals settle
-    ++ settles_text (k + 1) trace settle.turns (drop (settle.turns - before) turns) commands settles nodes journals
+abbrev pub settles_text : ℕ → Bool → ℕ → List TurnDone → List Command → List SettleDone → Kind → List NodeDecl → List (List JournalEntry) → List ℕ
+settles_text k trace before turns [] settles kind nodes journals = []
+settles_text k trace before turns (Settle rounds s ∷ commands) [] kind nodes journals = []
+settles_text k trace before turns (Settle rounds s ∷ commands) (settle ∷ settles) kind nodes journals =
+    trace_text trace (take (settle.turns - before) turns) ++ settle_text k kind s nodes journals settle
+    ++ settles_text (k + 1) trace settle.turns (drop (settle.turns - before) turns) commands settles kind nodes journals
+settles_text k trace before turns (other ∷ commands) settles kind nodes journals =
+    settles_text k trace before turns commands settles kind nodes journals
 
 -- the report of what was done in a laboratory, with a trace or without
 unfoldable pub report : Record → Laboratory → Bool → List ℕ
-report done lab trace = settles_text 1 trace 0 done.turns lab.commands done.settles lab.nodes done.journals ++ line (codes "end")
+report done lab trace =
+    settles_text 1 trace 0 done.turns lab.commands done.settles lab.kind lab.nodes done.journals ++ line (codes "end")

@@ -1,17 +1,23 @@
 //! The report of a run as text: what each settle of a scenario showed, for a reader or for a comparison of runs.
 //!
 //! The report is a function of the record of a run and of its scenario, defined in `specs/Report.antt`, and `report`
-//! returns exactly its bytes. It has a line for each settle that was done, after it the stores of the nodes where the
-//! settle shows them, and `end` as its last line. Numbers are decimal; a value's bytes are lower case hex.
+//! returns exactly its bytes. It has a line for each settle that was done, after it a line for each question of the
+//! phase with its answer, then the stores of the nodes and their routes where the settle shows them, and `end` as its
+//! last line. A store is shown with the full syncs that it started and that were finished in the phase. Nodes that are
+//! only stores have no routes to show. Numbers are decimal; a value's bytes are lower case hex; prefixes are as
+//! or_prefix prints them.
 //!
-//! The files: `lines` (the single lines), `text` (what they make up). Each function appends to one text, so the
-//! report costs what it writes and, for each key, a scan of the node's journal.
+//! The files: `lines` (the single lines of settles, stores and turns), `routes` (those of routes), `answers` (those of
+//! answers), `text` (what they make up). Each function appends to one text, so the report costs what it writes and,
+//! for each key, a scan of the node's journal.
 #![tactic(auto)]
 
 ghost use Rattle.std.specs.Prelude.{◌≡◌, IfOk};
 ghost use Rattle.net_report.specs.Report.{report};
 
+mod answers;
 mod lines;
+mod routes;
 mod text;
 
 use crate::text::settles_text;
@@ -37,6 +43,7 @@ pub fn report(
         done.turns.as_slice(),
         scenario.commands.as_slice(),
         done.settles.as_slice(),
+        scenario.kind,
         scenario.nodes.as_slice(),
         done.journals.as_slice(),
     )?;

@@ -2,10 +2,10 @@
 
 ghost use Rattle.std.specs.Prelude.{◌≡◌, ◌++◌, OnOk, string_bytes};
 ghost use Rattle.std.specs.Fmt.{decimal};
-ghost use Rattle.net_report.specs.Report.{settle_line, store_line, hex_text, left_text, key_line, turn_line};
+ghost use Rattle.net_report.specs.Report.{settle_line, store_line, hex_text, left_text, key_line, sync_line, turn_line};
 
 use net_record::NodeMark;
-use or_base::{Key, KvValue, Name, NoMemory, TurnDone};
+use or_base::{Key, KvValue, Name, NoMemory, SyncDone, TurnDone};
 
 /// `settle <k> moment <moment>`: the k-th settle, from 1, and its moment in milliseconds.
 #[tactic(auto, unfolding(crate::specs::Report::settle_line))]
@@ -18,8 +18,8 @@ pub(crate) fn settle_line(out: &mut String, k: u64, moment: u64) -> Result<(), N
 
 /// `store <node> entries <journal length> stale <count>`.
 #[tactic(auto, unfolding(crate::specs::Report::store_line))]
-pub(crate) fn store_line(out: &mut String, node: &Name, mark: NodeMark) -> Result<(), NoMemory>
-    ensures { OnOk result (string_bytes out.new ≡ string_bytes out.old ++ store_line node.now mark) }
+pub(crate) fn store_line(out: &mut String, node: &Name, mark: &NodeMark) -> Result<(), NoMemory>
+    ensures { OnOk result (string_bytes out.new ≡ string_bytes out.old ++ store_line node.now mark.now) }
 {
     let name = node.as_str();
     let entries = mark.entries;
@@ -29,7 +29,7 @@ pub(crate) fn store_line(out: &mut String, node: &Name, mark: NodeMark) -> Resul
 }
 
 /// Bytes in lower case hex, `-` where there are none.
-fn hex_text(out: &mut String, bytes: &[u8]) -> Result<(), NoMemory>
+pub(crate) fn hex_text(out: &mut String, bytes: &[u8]) -> Result<(), NoMemory>
     ensures { OnOk result (string_bytes out.new ≡ string_bytes out.old ++ hex_text bytes.now) }
 {
     if bytes.is_empty() {
@@ -82,6 +82,21 @@ pub(crate) fn key_line(
     write!(out, " {ttl_version} ")?;
     left_text(out, value.ttl, merged_at, moment)?;
     out.push_str("\n")?;
+    Ok(())
+}
+
+/// `sync <link> <session> <a0> <b0> <withheld>`: a full sync that was finished.
+#[tactic(auto, unfolding(crate::specs::Report::sync_line))]
+pub(crate) fn sync_line(out: &mut String, sync: &SyncDone) -> Result<(), NoMemory>
+    ensures { OnOk result (string_bytes out.new ≡ string_bytes out.old ++ sync_line sync.now) }
+{
+    let link = sync.link;
+    let session = sync.session;
+    write!(out, "sync {link} {session} ")?;
+    let a0 = sync.a0;
+    let b0 = sync.b0;
+    let withheld = sync.withheld;
+    write!(out, "{a0} {b0} {withheld}\n")?;
     Ok(())
 }
 

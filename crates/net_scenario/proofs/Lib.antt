@@ -1,2 +1,12 @@
-pub mod FirstFormLemmas
-pub mod Ending
+pub mod Lists
+pub mod Bools
+pub mod Soundness
+pub mod AdmittedForms
+pub mod AdmittedRows
+pub mod AdmittedFields
+pub mod AdmittedCommands
+pub mod Admitted
+pub mod Tallies
+pub mod Cuts
+pub mod Lines
+pub mod Late

@@ -1,2 +1,10 @@
 pub mod Scenario
-pub mod FirstForm
+pub mod Limits
+pub mod Sound
+pub mod Seen
+pub mod Conditions
+pub mod Statement
+pub mod Faults
+pub mod Language
+pub mod Gives
+pub mod Tallied

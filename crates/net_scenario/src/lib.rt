@@ -1,27 +1,40 @@
 //! Scenarios: what a laboratory consists of and what is done in it, and how that is read from bytes.
 //!
 //! A scenario declares nodes and links, and lists commands in order; the commands up to and with a settle are a
-//! phase. The type keeps what makes a scenario sound (`specs/Scenario.antt`): names within their limits and
-//! distinct, links between two different declared nodes, commands of declared nodes with valid pairs, and a settle
-//! at the end. So no run of a scenario meets a name that isn't there.
+//! phase. The type keeps that a scenario is sound (`specs/Sound.antt`): each node, link and command may stand behind
+//! those before it, and the last command is a settle. So no run of a scenario meets a name that isn't there.
 //!
-//! The files: `command`, `declared` and `show` (plain data), `scenario` (the type with its invariant), `sound` (the
-//! test of that invariant), and `first_form` (the one form of bytes that is read so far, with its definition in
-//! `specs/FirstForm.antt`: `read_first_form` gives exactly what that says).
+//! `read_scenario` reads lines of JSON objects (RFC 8259). What a line says is `specs/Statement.antt`; the fourteen
+//! faults of a line are a table of conditions, each a definition of its own (`specs/Faults.antt`, over
+//! `specs/Conditions.antt` and net_fields), and the promise is that the scenario, or the first faulty line with the
+//! lowest number of a fault, is exactly what `specs/Language.antt` says. The definitions look at the lists of what was
+//! declared and commanded before; the code keeps counts and hashed names beside those lists (`tally`, `names`), so that
+//! reading takes time in proportion to the bytes.
+//!
+//! The files: `command`, `declared`, `schedule`, `statement` and `fault` (plain data), `scenario` (the type with its
+//! invariant), `names` and `tally` (what the lines so far amount to), `draft` (what they say), `conditions` (the
+//! conditions on a line), `reading` (what it says), `line`, `language`.
 #![tactic(auto)]
 
 mod command;
+mod conditions;
 mod declared;
-mod first_form;
+mod draft;
+mod fault;
+mod language;
+mod line;
+mod names;
+mod reading;
 mod scenario;
 mod schedule;
-mod show;
-mod sound;
+mod statement;
+mod tally;
 
 pub use command::Command;
 pub use declared::{LinkDecl, NodeDecl};
-pub use first_form::read_first_form;
+pub use fault::{ReadRefusal, ScenarioFault};
+pub use language::read_scenario;
+pub use net_fields::Show;
 pub use or_base::Kind;
 pub use scenario::Scenario;
-pub use schedule::Turn;
-pub use show::Show;
+pub use schedule::{Schedule, Turn};

@@ -2,6 +2,7 @@ ghost use Rattle.std.specs.Prelude.{◌≡◌, ◌≤◌, length};
 
 use crate::command::Command;
 use crate::declared::{LinkDecl, NodeDecl};
+use crate::schedule::Schedule;
 use or_base::{Kind, Seq};
 use std::marker::Model;
 
@@ -9,25 +10,31 @@ use std::marker::Model;
 #[derive(Drop)]
 pub struct Scenario {
     pub kind: Kind,
+    /// The lifetime of the records that nodes publish, in milliseconds; without one they live for ever.
+    pub ttl: Option<u64>,
     pub nodes: Seq<NodeDecl>,
     pub links: Seq<LinkDecl>,
+    /// The last is a settle.
     pub commands: Seq<Command>,
+    /// The turns of the run, where they are given.
+    pub turns: Option<Schedule>,
 }
 
 impl Model for Scenario {
     ghost use Rattle.std.specs.Prelude.{IsTrue};
-    ghost use Rattle.net_scenario.specs.Scenario.{Laboratory, is_sound};
+    ghost use Rattle.net_scenario.specs.Scenario.{Laboratory};
+    ghost use Rattle.net_scenario.specs.Sound.{is_sound};
 
     ghost Value = { Laboratory };
 
-    ghost view = { λ s. record { kind = s.kind; nodes = s.nodes; links = s.links; commands = s.commands } };
+    ghost view = { λ s. record { kind = s.kind; ttl = s.ttl; nodes = s.nodes; links = s.links; commands = s.commands; turns = s.turns } };
 
-    ghost invariant = { λ s. IsTrue (is_sound (record { kind = s.kind; nodes = s.nodes; links = s.links; commands = s.commands })) };
+    ghost invariant = { λ s. IsTrue (is_sound (record { kind = s.kind; ttl = s.ttl; nodes = s.nodes; links = s.links; commands = s.commands; turns = s.turns })) };
 }
 
 impl Scenario {
     /// The nodes, in the order of their declarations: at most 64.
-    #[tactic(auto, unfolding(crate::specs::Scenario::is_sound))]
+    #[tactic(auto, using(crate::proofs::Soundness::few_nodes))]
     pub fn nodes(&self) -> &[NodeDecl]
         ensures nodes { result.now ≡ self.now.nodes }
         ensures few { length result.now ≤ 64 }
@@ -36,7 +43,7 @@ impl Scenario {
     }
 
     /// The links, in the order of their numbers: at most 256.
-    #[tactic(auto, unfolding(crate::specs::Scenario::is_sound))]
+    #[tactic(auto, using(crate::proofs::Soundness::few_links))]
     pub fn links(&self) -> &[LinkDecl]
         ensures links { result.now ≡ self.now.links }
         ensures few { length result.now ≤ 256 }

@@ -61,7 +61,7 @@ issue_made w stamp issues lanes is put = rw (put, is) refl
 -- a settle was done
 pub settle_made : (w : WorldState) (clock : ℕ) (nodes : List NodeMark) (actors : List ActorState) (settles : List SettleDone)
     → clock ≡ greatest_clock w.actors + 1 → nodes ≡ marks_of w.actors → actors ≡ map (with_clock clock) w.actors
-    → settles ≡ w.settles ++ record { turns = length w.turns; moment = 0; nodes = nodes } ∷ []
+    → settles ≡ w.settles ++ record { turns = length w.turns; moment = 0; nodes = nodes; answers = [] } ∷ []
     → record { wires = w.wires; lanes = w.lanes; actors = actors; turns = w.turns; settles = settles } ≡ settled w
 unfolding settled
 settle_made w clock nodes actors settles is marked set_to done = rw (done, set_to, marked, is) refl

@@ -110,12 +110,14 @@ impl World {
         ensures { OnOk result (self.new ≡ settled self.old) }
     {
         let nodes = marks_of(self.alloc, self.actors.as_slice())?;
+        let answers = Vec::new(self.alloc);
         self.settles.reserve(1)?;
         let clock = greatest_clock(self.actors.as_slice()) + 1;
         self.settles.push_reserved(SettleDone {
             turns: self.turns.len() as u64,
             moment: 0,
             nodes: Seq::from_vec(nodes),
+            answers: Seq::from_vec(answers),
         });
         set_clocks(&mut self.actors, clock);
         Ok(())

@@ -1,29 +1,68 @@
-use Rattle.std.specs.Prelude.{ℕ, List, ◌++◌, Option, Some, None, false, codes}
+-- What the program answers to the bytes that it has read.
+use Rattle.std.specs.Prelude.{ℕ, List, ◌++◌, ◌==◌, Option, Some, None, Result, Ok, Err, Bool, true, if◌then◌else◌, codes}
 use Rattle.std.specs.Fmt.{decimal}
+use Rattle.lab_words.specs.declared.words.Words.{Words}
+use Rattle.net_scenario.specs.declared.fault.ScenarioFault.{ScenarioFault}
 use Rattle.net_scenario.specs.Scenario.{Laboratory}
-use Rattle.net_scenario.specs.FirstForm.{first_form}
+use Rattle.net_scenario.specs.Language.{scenario_of}
 use Rattle.net_record.specs.declared.record.Record.{Record}
 use Rattle.net_record.specs.Rounds.{round_robin}
 use Rattle.net_record.specs.Records.{record_of}
 use Rattle.net_report.specs.Report.{line, report}
 use Rattle.openr_lab.specs.declared.answer.Answer.{Answer}
+use Rattle.openr_lab.specs.Built.{is_built}
+
+-- the name of a fault
+unfoldable pub fault_name : ℕ → List ℕ
+fault_name number =
+    if number == 1 then codes "NotText"
+    else if number == 2 then codes "BadJson"
+    else if number == 3 then codes "NoLab"
+    else if number == 4 then codes "UnknownCommand"
+    else if number == 5 then codes "MissingField"
+    else if number == 6 then codes "BadField"
+    else if number == 7 then codes "UnknownName"
+    else if number == 8 then codes "RepeatedName"
+    else if number == 9 then codes "TwoOwners"
+    else if number == 10 then codes "TooMany"
+    else if number == 11 then codes "TooLong"
+    else if number == 12 then codes "BadPrefix"
+    else if number == 13 then codes "BadScript"
+    else codes "WrongKind"
+
+-- `fault line <line> number <number> <name>`
+abbrev pub fault_text : ℕ → ℕ → List ℕ → List ℕ
+fault_text at number name = line (codes "fault line " ++ decimal at ++ codes " number " ++ decimal number ++ codes " " ++ name)
+
+unfoldable pub fault_line : ScenarioFault → List ℕ
+fault_line fault = fault_text fault.line fault.number (fault_name fault.number)
+
+abbrev pub not_built_line : List ℕ
+not_built_line = line (codes "not built")
 
 -- `unsettled in settle <k>`
 abbrev pub unsettled_line : ℕ → List ℕ
 unsettled_line settle = line (codes "unsettled in settle " ++ decimal settle)
 
--- the answer to a laboratory whose run by round robin ended so, with this record: its report, or which settle failed
-abbrev pub answer_after : Option ℕ → Record → Laboratory → Answer
-answer_after None done lab = record { status = 0; text = report done lab false; run = Some done }
-answer_after (Some settle) done lab = record { status = 4; text = unsettled_line settle; run = Some done }
+-- the answer to a laboratory whose run by round robin ended so, with this record: its report, with a trace or without, or
+-- which settle failed
+abbrev pub answer_after : Option ℕ → Record → Laboratory → Bool → Answer
+answer_after None done lab trace = record { status = 0; text = report done lab trace; run = Some done }
+answer_after (Some settle) done lab trace = record { status = 4; text = unsettled_line settle; run = Some done }
 
--- the answer to bytes that are a scenario, or aren't
-unfoldable pub answer_for : Option Laboratory → Answer
-answer_for None = record { status = 3; text = line (codes "not built"); run = None }
-answer_for (Some lab) =
+-- the answer to a laboratory that is run
+unfoldable pub answer_ran : Bool → Laboratory → Answer
+answer_ran trace lab =
     let ended = round_robin lab in
-    answer_after ended.unsettled (record_of ended.last.world ended.last.marks) lab
+    answer_after ended.unsettled (record_of ended.last.world ended.last.marks) lab trace
 
--- what the program answers to the bytes that it has read: a status, a text and the record of the run
-abbrev pub answer_to : List ℕ → Answer
-answer_to bytes = answer_for (first_form bytes)
+-- the answer to bytes that are a scenario, or have a fault
+unfoldable pub answer_for : Words → Result Laboratory ScenarioFault → Answer
+answer_for words (Err fault) = record { status = 3; text = fault_line fault; run = None }
+answer_for words (Ok lab) =
+    if is_built words lab then answer_ran words.trace lab else record { status = 3; text = not_built_line; run = None }
+
+-- What the program answers to the bytes that it has read: a status, a text and the record of the run. Turn lines may
+-- stand in a scenario that is replayed.
+abbrev pub answer_to : Words → List ℕ → Answer
+answer_to words bytes = answer_for words (scenario_of bytes true)

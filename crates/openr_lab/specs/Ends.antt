@@ -1,7 +1,10 @@
-use Rattle.std.specs.Prelude.{◌≡◌, ◌⊎◌, ℕ, List, [], Bool, true, false, ◌||◌, ◌==◌, if◌then◌else◌, Option, Some, None, codes, String}
+-- What each end of the program says of the words, the bytes read, the bytes written and the record.
+use Rattle.std.specs.Prelude.{◌≡◌, ◌⊎◌, ℕ, List, [], Bool, true, false, ◌||◌, ◌==◌, if◌then◌else◌, Option, Some, None, Ok, codes, String, string_bytes, map}
 use Rattle.std.specs.declared.alloc.Global.{Global}
+use Rattle.lab_words.specs.declared.words.Words.{Words}
+use Rattle.lab_words.specs.Words.{words_of}
 use Rattle.net_scenario.specs.Scenario.{Laboratory}
-use Rattle.net_scenario.specs.FirstForm.{first_form}
+use Rattle.net_scenario.specs.Language.{scenario_of}
 use Rattle.net_record.specs.declared.record.Record.{Record}
 use Rattle.net_record.specs.Rounds.{round_robin}
 use Rattle.net_record.specs.Run.{run as run_of, schedule_of}
@@ -11,8 +14,8 @@ use Rattle.net_report.specs.Report.{line, report as report_of}
 use Rattle.openr_lab.specs.declared.answer.Answer.{Answer}
 use Rattle.openr_lab.specs.declared.streams.TheConstants.{READ_LIMIT}
 use Rattle.openr_lab.specs.Streams.{ReadWhole, WroteWhole, WroteFront}
-use Rattle.openr_lab.specs.Words.{are_replay}
-use Rattle.openr_lab.specs.Answer.{answer_to}
+use Rattle.openr_lab.specs.Built.{is_mode_built, is_built}
+use Rattle.openr_lab.specs.Answer.{answer_to, not_built_line}
 
 -- the statuses: done, wrong words, no scenario, unsettled, want of memory, a read that failed, a write that failed
 abbrev pub is_status : ℕ → Bool
@@ -22,6 +25,10 @@ is_status n = n == 0 || n == 2 || n == 3 || n == 4 || n == 5 || n == 6 || n == 7
 abbrev pub IsAnswered : ℕ → Type 0
 IsAnswered n = (n ≡ 0) ⊎ ((n ≡ 3) ⊎ (n ≡ 4))
 
+-- what the words ask for
+abbrev pub asked_by : List (String Global) → Option Words
+asked_by words = words_of (map string_bytes words)
+
 abbrev pub usage : List ℕ
 usage = line (codes "usage: openr_lab [--workers n] [--size n] [--trace] replay|live|gen|check")
 
@@ -30,62 +37,96 @@ abbrev pub ReadToEnd : Option (List ℕ) → Option (List ℕ) → List ℕ → 
 ReadToEnd None after bytes = after ≡ None
 ReadToEnd (Some left) after bytes = (after ≡ Some []) × (bytes ≡ left)
 
--- The words were wrong: nothing was read, and the usage line was written. The bytes left in the source and those
--- taken by the sink are given before and after.
-pub record RefusedWords (words : List (String Global)) (left left' taken taken' : Option (List ℕ)) (run : Option Record) : Type 0 where
-  pub wrong : are_replay words ≡ false
+-- In what follows the bytes left in the source and those taken by the sink are given before and after.
+
+-- Nothing was read, and this text was written whole.
+pub record Refused (text : List ℕ) (left left' taken taken' : Option (List ℕ)) (run : Option Record) : Type 0 where
   pub unread : left' ≡ left
-  pub written : WroteWhole taken taken' usage
+  pub written : WroteWhole taken taken' text
+  pub no_record : run ≡ None
+
+-- Nothing was read, and the writing of this text failed.
+pub record RefusalFailed (text : List ℕ) (left left' taken taken' : Option (List ℕ)) (run : Option Record) : Type 0 where
+  pub unread : left' ≡ left
+  pub written : WroteFront taken taken' text
   pub no_record : run ≡ None
 
 -- The source was read to its end, or to the limit where the bytes are no scenario, and the answer to them was written
 -- whole.
-pub record Answered (words : List (String Global)) (left left' taken taken' : Option (List ℕ)) (status : ℕ) (run : Option Record) : Type 0 where
-  pub right : are_replay words ≡ true
+pub record Read (words : Words) (left left' taken taken' : Option (List ℕ)) (status : ℕ) (run : Option Record) : Type 0 where
+  pub built : is_mode_built words.mode ≡ true
   pub bytes : List ℕ
   pub read : ReadWhole READ_LIMIT left left' bytes
   pub to_end : (status ≡ 3) ⊎ ReadToEnd left left' bytes
-  pub answer : status ≡ (answer_to bytes).status
-  pub written : WroteWhole taken taken' (answer_to bytes).text
-  pub recorded : run ≡ (answer_to bytes).run
+  pub answer : status ≡ (answer_to words bytes).status
+  pub written : WroteWhole taken taken' (answer_to words bytes).text
+  pub recorded : run ≡ (answer_to words bytes).run
+
+-- The mode isn't built: the status is 3, before anything is read.
+pub record NotBuilt (words : Words) (left left' taken taken' : Option (List ℕ)) (status : ℕ) (run : Option Record) : Type 0 where
+  pub unbuilt : is_mode_built words.mode ≡ false
+  pub status_is : status ≡ 3
+  pub refused : Refused not_built_line left left' taken taken' run
+
+abbrev pub Answered : Words → Option (List ℕ) → Option (List ℕ) → Option (List ℕ) → Option (List ℕ) → ℕ → Option Record → Type 0
+Answered words left left' taken taken' status run =
+    Read words left left' taken taken' status run ⊎ NotBuilt words left left' taken taken' status run
 
 -- the record that is there where the writing of an answer failed: that of a finished run
 abbrev pub finished_run : Answer → Option Record
 finished_run answer = if answer.status == 0 then answer.run else None
 
--- A write of the usage line failed.
-pub record UsageFailed (words : List (String Global)) (left left' taken taken' : Option (List ℕ)) (run : Option Record) : Type 0 where
-  pub wrong : are_replay words ≡ false
-  pub unread : left' ≡ left
-  pub written : WroteFront taken taken' usage
-  pub no_record : run ≡ None
-
--- A write of an answer failed.
-pub record AnswerFailed (words : List (String Global)) (left left' taken taken' : Option (List ℕ)) (run : Option Record) : Type 0 where
-  pub right : are_replay words ≡ true
+-- The source was read, and the writing of the answer failed.
+pub record ReadFailed (words : Words) (left left' taken taken' : Option (List ℕ)) (run : Option Record) : Type 0 where
+  pub built : is_mode_built words.mode ≡ true
   pub bytes : List ℕ
   pub read : ReadWhole READ_LIMIT left left' bytes
-  pub written : WroteFront taken taken' (answer_to bytes).text
-  pub recorded : run ≡ finished_run (answer_to bytes)
+  pub written : WroteFront taken taken' (answer_to words bytes).text
+  pub recorded : run ≡ finished_run (answer_to words bytes)
+
+-- The mode isn't built, and the writing of that failed.
+pub record NotBuiltFailed (words : Words) (left left' taken taken' : Option (List ℕ)) (run : Option Record) : Type 0 where
+  pub unbuilt : is_mode_built words.mode ≡ false
+  pub refused : RefusalFailed not_built_line left left' taken taken' run
+
+abbrev pub AnswerFailed : Words → Option (List ℕ) → Option (List ℕ) → Option (List ℕ) → Option (List ℕ) → Option Record → Type 0
+AnswerFailed words left left' taken taken' run =
+    ReadFailed words left left' taken taken' run ⊎ NotBuiltFailed words left left' taken taken' run
 
 -- What status 0 says of the run of a laboratory: the record is that of its run by round robin, which settled every
 -- phase and left no item. But for its marks it is the record of the run under the schedule of its own turns. The text
 -- is its report.
-pub record IsReplay (lab : Laboratory) (text : List ℕ) (run : Option Record) : Type 0 where
+pub record IsReplay (lab : Laboratory) (trace : Bool) (text : List ℕ) (run : Option Record) : Type 0 where
   pub done : Record
   pub recorded : run ≡ Some done
   pub rounds : IsSettled (round_robin lab) done
   pub drained : EndsDrained lab
   pub is_run : IsRecordOf (run_of lab (schedule_of done.turns)) done
-  pub report : text ≡ report_of done lab false
+  pub report : text ≡ report_of done lab trace
 
--- What status 0 says of the whole call: the source was read to its end, its bytes are a scenario, and the report of
--- the scenario's run was written whole.
-pub record Done (left left' taken taken' : Option (List ℕ)) (run : Option Record) : Type 0 where
+-- What status 0 says of the whole call: the source was read to its end, its bytes are a scenario that the program
+-- runs, and the report of the scenario's run was written whole.
+pub record Done (words : Words) (left left' taken taken' : Option (List ℕ)) (run : Option Record) : Type 0 where
   pub bytes : List ℕ
   pub lab : Laboratory
   pub text : List ℕ
   pub read : ReadToEnd left left' bytes
-  pub scenario : first_form bytes ≡ Some lab
-  pub replay : IsReplay lab text run
+  pub scenario : scenario_of bytes true ≡ Ok lab
+  pub built : is_built words lab ≡ true
+  pub replay : IsReplay lab words.trace text run
   pub written : WroteWhole taken taken' text
+
+-- ---- the same of the words as they are given
+
+-- The words are wrong: the usage line was written.
+pub record RefusedWords (words : List (String Global)) (left left' taken taken' : Option (List ℕ)) (run : Option Record) : Type 0 where
+  pub wrong : asked_by words ≡ None
+  pub refused : Refused usage left left' taken taken' run
+
+pub record UsageFailed (words : List (String Global)) (left left' taken taken' : Option (List ℕ)) (run : Option Record) : Type 0 where
+  pub wrong : asked_by words ≡ None
+  pub refused : RefusalFailed usage left left' taken taken' run
+
+-- the words ask for something of which this is true
+abbrev pub IsAsked : List (String Global) → (Words → Type 0) → Type 0
+IsAsked words holds = (asked : Words) × (asked_by words ≡ Some asked) × holds asked

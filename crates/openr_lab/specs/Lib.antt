@@ -1,4 +1,4 @@
 pub mod Streams
-pub mod Words
+pub mod Built
 pub mod Answer
 pub mod Ends

@@ -3,20 +3,23 @@
 //! `openr` does all that the program does, over any source and any sink: it reads the words, then the source, runs
 //! the scenario by round robin and writes the report. Input is read whole before anything is done with it, and every
 //! text is made whole before its first byte goes out. Its contract is the theorem on the whole program: what each
-//! status says of the bytes read, of the bytes written and of the record (`specs/Ends.antt`, over `answer_to` of
-//! `specs/Answer.antt`). `main` makes the real source and sink and ends with the status.
+//! status says of the words, of the bytes read, of the bytes written and of the record (`specs/Ends.antt`, over
+//! `answer_to` of `specs/Answer.antt`). What the program doesn't run yet is said in one place (`specs/Built.antt`).
+//! `main` makes the real source and sink and ends with the status.
 //!
-//! The files: `words`, `streams` (reading and writing whole), `replay` (the answer to the bytes), `top` (the call).
+//! The files: `built` (what is run so far), `texts` (the texts of the statuses other than 0), `streams` (reading and
+//! writing whole), `replay` (the answer to the bytes), `top` (the calls).
 #![tactic(auto)]
 
 mod answer;
+mod built;
 mod ended;
 mod replay;
 mod streams;
 #[cfg(test)]
 mod tests;
+mod texts;
 mod top;
-mod words;
 
 use or_base::{RealSink, RealSource};
 use std::process::ExitCode;

@@ -1,14 +1,27 @@
+mod built;
+mod faults;
+
+use crate::answer::Answer;
+use crate::replay::answer_to;
+use crate::tests::built::{BUILT_CASES, built_text};
+use crate::tests::faults::{FAULT_TABLES, FaultTable, ODD_CASES};
+use crate::texts::NOT_BUILT;
 use crate::top::openr;
+use lab_words::{Mode, Words};
 use or_base::{MemSink, MemSource};
 use std::alloc::Global;
 use std::process::Abort;
 use std::test::Fail;
 
-const OPENING: &str = r#"{"do":"lab","kind":"stores"}
+const STORES: &str = r#"{"do":"lab","kind":"stores"}
 {"do":"node","name":"a"}
 {"do":"node","name":"b"}
 {"do":"link","a":"a","b":"b"}
 {"do":"settle","show":"none"}
+"#;
+
+const ONE_STORE: &str = r#"{"do":"lab","kind":"stores"}
+{"do":"node","name":"a"}
 "#;
 
 const SET_AT_A: &str = r#"{"do":"set","node":"a","key":"x","version":1,"hex":"01"}
@@ -41,7 +54,7 @@ const CASES: &[Case] = &[
     Case {
         name: "a key set at one of two linked stores is held by both",
         words: &["replay"],
-        input: &[OPENING, SET_AT_A, SHOWN],
+        input: &[STORES, SET_AT_A, SHOWN],
         failing_read: 0,
         failing_write: 0,
         status: 0,
@@ -51,7 +64,7 @@ const CASES: &[Case] = &[
     Case {
         name: "of two values of one version the greater originator wins",
         words: &["replay"],
-        input: &[OPENING, SET_AT_A, SILENT, SET_AT_B, SHOWN],
+        input: &[STORES, SET_AT_A, SILENT, SET_AT_B, SHOWN],
         failing_read: 0,
         failing_write: 0,
         status: 0,
@@ -61,7 +74,7 @@ const CASES: &[Case] = &[
     Case {
         name: "the lesser value is kept out, whichever comes first",
         words: &["replay"],
-        input: &[OPENING, SET_AT_B, SILENT, SET_AT_A, SHOWN],
+        input: &[STORES, SET_AT_B, SILENT, SET_AT_A, SHOWN],
         failing_read: 0,
         failing_write: 0,
         status: 0,
@@ -76,12 +89,83 @@ const CASES: &[Case] = &[
         failing_write: 0,
         status: 3,
         has_record: false,
+        output: "fault line 1 number 3 NoLab\n",
+    },
+    Case {
+        name: "a line that is cut has a fault",
+        words: &["replay"],
+        input: &[STORES, r#"{"do":"set","node":"a","#],
+        failing_read: 0,
+        failing_write: 0,
+        status: 3,
+        has_record: false,
+        output: "fault line 6 number 2 BadJson\n",
+    },
+    Case {
+        name: "of two values of one version and originator the greater bytes win, and then the greater ttl version",
+        words: &["replay"],
+        input: &[
+            ONE_STORE,
+            SET_AT_A,
+            r#"{"do":"set","node":"a","key":"x","version":1,"hex":"0100"}
+{"do":"set","node":"a","key":"x","version":1,"hex":"0100","ttlv":1}
+{"do":"set","node":"a","key":"x","version":1,"hex":"01","ttlv":9}
+"#,
+            SHOWN,
+        ],
+        failing_read: 0,
+        failing_write: 0,
+        status: 0,
+        has_record: true,
+        output: "settle 1 moment 0\nstore a entries 3 stale 0\nkey x 1 a 0100 1 -\nend\n",
+    },
+    Case {
+        name: "a trace has a line for each turn",
+        words: &["--trace", "replay"],
+        input: &[ONE_STORE, SET_AT_A, SHOWN],
+        failing_read: 0,
+        failing_write: 0,
+        status: 0,
+        has_record: true,
+        output: "{\"do\":\"turn\",\"lane\":0,\"at\":0}\nsettle 1 moment 0\nstore a entries 1 stale 0\nkey x 1 a 01 0 -\nend\n",
+    },
+    Case {
+        name: "an originator of another name, and the settle that stands at the end",
+        words: &["replay"],
+        input: &[
+            ONE_STORE,
+            r#"{"text":"w","originator":"z","version":2,"key":"k","node":"a","do":"set"}"#,
+        ],
+        failing_read: 0,
+        failing_write: 0,
+        status: 0,
+        has_record: true,
+        output: "settle 1 moment 0\nstore a entries 1 stale 0\nkey k 2 z 77 0 -\nend\n",
+    },
+    Case {
+        name: "stores have no routes to show",
+        words: &["replay"],
+        input: &[ONE_STORE, r#"{"do":"settle","show":"routes"}"#],
+        failing_read: 0,
+        failing_write: 0,
+        status: 0,
+        has_record: true,
+        output: "settle 1 moment 0\nend\n",
+    },
+    Case {
+        name: "a mode that isn't built is refused before the source is read",
+        words: &["live", "--workers", "4"],
+        input: &[STORES],
+        failing_read: 1,
+        failing_write: 0,
+        status: 3,
+        has_record: false,
         output: "not built\n",
     },
     Case {
         name: "another word is refused",
         words: &["fly"],
-        input: &[OPENING],
+        input: &[STORES],
         failing_read: 0,
         failing_write: 0,
         status: 2,
@@ -91,7 +175,7 @@ const CASES: &[Case] = &[
     Case {
         name: "no word is refused",
         words: &[],
-        input: &[OPENING],
+        input: &[STORES],
         failing_read: 0,
         failing_write: 0,
         status: 2,
@@ -101,7 +185,7 @@ const CASES: &[Case] = &[
     Case {
         name: "a second word is refused",
         words: &["replay", "replay"],
-        input: &[OPENING],
+        input: &[STORES],
         failing_read: 0,
         failing_write: 0,
         status: 2,
@@ -111,7 +195,7 @@ const CASES: &[Case] = &[
     Case {
         name: "a first read that fails",
         words: &["replay"],
-        input: &[OPENING, SET_AT_A, SHOWN],
+        input: &[STORES, SET_AT_A, SHOWN],
         failing_read: 1,
         failing_write: 0,
         status: 6,
@@ -121,7 +205,7 @@ const CASES: &[Case] = &[
     Case {
         name: "a read that fails in mid-stream",
         words: &["replay"],
-        input: &[OPENING, SET_AT_A, SHOWN],
+        input: &[STORES, SET_AT_A, SHOWN],
         failing_read: 5,
         failing_write: 0,
         status: 6,
@@ -131,7 +215,7 @@ const CASES: &[Case] = &[
     Case {
         name: "a write that fails in mid-stream leaves a front of the report",
         words: &["replay"],
-        input: &[OPENING, SET_AT_A, SHOWN],
+        input: &[STORES, SET_AT_A, SHOWN],
         failing_read: 0,
         failing_write: 2,
         status: 7,
@@ -141,13 +225,39 @@ const CASES: &[Case] = &[
     Case {
         name: "a write of the usage line that fails",
         words: &["fly"],
-        input: &[OPENING],
+        input: &[STORES],
         failing_read: 0,
         failing_write: 2,
         status: 7,
         has_record: false,
         output: "usage: ope",
     },
+];
+
+/// Scenarios that are read and not run yet.
+const UNBUILT: &[&str] = &[
+    r#"{"do":"lab","kind":"full"}"#,
+    r#"{"do":"lab","kind":"stores"}
+{"do":"node","name":"a"}
+{"do":"node","name":"b"}
+{"do":"node","name":"c"}"#,
+    r#"{"do":"lab","kind":"stores"}
+{"do":"node","name":"a"}
+{"do":"node","name":"b"}
+{"do":"link","a":"a","b":"b"}
+{"do":"link","a":"a","b":"b","aif":"p","bif":"p"}"#,
+    r#"{"do":"lab","kind":"stores"}
+{"do":"node","name":"a"}
+{"do":"set","node":"a","key":"x","version":1,"hex":"","ttl":5}"#,
+    r#"{"do":"lab","kind":"stores"}
+{"do":"settle","rounds":1001}"#,
+    r#"{"do":"lab","kind":"stores"}
+{"do":"tick","to":0}"#,
+    r#"{"do":"lab","kind":"stores"}
+{"do":"node","name":"a"}
+{"do":"get","node":"a","key":"x"}"#,
+    r#"{"do":"lab","kind":"stores"}
+{"do":"turn","lane":0,"at":0}"#,
 ];
 
 /// The texts, one after another.
@@ -186,6 +296,129 @@ fn ends_as_stated(rt: &impl Abort, alloc: Global, case: &Case) -> Result<(), Fai
 fn each_call_ends_as_stated(rt: HostRuntime) -> Result<(), Fail> {
     for case in CASES {
         ends_as_stated(&rt, rt.alloc(), case)?;
+    }
+    Ok(())
+}
+
+/// The answer to bytes under the word `replay`.
+fn replayed(alloc: Global, bytes: &[u8]) -> Result<Answer, Fail> {
+    let words = Words {
+        mode: Mode::Replay,
+        workers: 2,
+        size: 3,
+        trace: false,
+    };
+    Ok(answer_to(alloc, &words, bytes)?)
+}
+
+/// The answer is the fault of a line: its number and the fault.
+fn is_fault(
+    rt: &impl Abort,
+    alloc: Global,
+    bytes: &[u8],
+    fault: &str,
+    name: &str,
+) -> Result<(), Fail> {
+    let stated = format!(in alloc; "fault line {fault}\n")?;
+    let given = replayed(alloc, bytes)?;
+    assert_eq!(rt; given.text.as_slice(), stated.as_bytes(), "{name}");
+    assert_eq!(rt; given.status, 3, "{name}");
+    Ok(())
+}
+
+/// Each case of the table has its fault.
+fn table_holds(rt: &impl Abort, alloc: Global, table: &FaultTable) -> Result<(), Fail> {
+    for case in table.cases.lines() {
+        let (fault, lines) = case.split_once(" | ").unwrap_or(("", case));
+        let lines = lines.replace(alloc, "¶", "\n")?;
+        let bytes = joined(alloc, &[table.opening, lines.as_str()])?;
+        is_fault(rt, alloc, &bytes, fault, case)?;
+    }
+    Ok(())
+}
+
+#[test]
+fn each_line_has_its_stated_fault(rt: HostRuntime) -> Result<(), Fail> {
+    let alloc = rt.alloc();
+    for table in FAULT_TABLES {
+        table_holds(&rt, alloc, table)?;
+    }
+    for (opening, lines, fault) in ODD_CASES {
+        let bytes = joined(alloc, &[opening, lines])?;
+        is_fault(&rt, alloc, &bytes, fault, lines)?;
+    }
+    Ok(())
+}
+
+#[test]
+fn counts_and_lengths_have_their_stated_limits(rt: HostRuntime) -> Result<(), Fail> {
+    let alloc = rt.alloc();
+    for case in BUILT_CASES {
+        let text = built_text(alloc, case)?;
+        if case.fault.is_empty() {
+            let given = replayed(alloc, text.as_bytes())?;
+            assert!(rt;
+                !given.text.as_slice().starts_with(b"fault"),
+                "{}",
+                case.name
+            );
+        } else {
+            is_fault(&rt, alloc, text.as_bytes(), case.fault, case.name)?;
+        }
+    }
+    Ok(())
+}
+
+#[test]
+fn scenarios_that_are_not_run_yet_are_refused(rt: HostRuntime) -> Result<(), Fail> {
+    for text in UNBUILT {
+        let given = replayed(rt.alloc(), text.as_bytes())?;
+        assert_eq!(rt; given.status, 3, "{text}");
+        assert_eq!(rt; given.text.as_slice(), NOT_BUILT, "{text}");
+    }
+    Ok(())
+}
+
+#[test]
+fn bytes_that_are_no_text_have_a_fault(rt: HostRuntime) -> Result<(), Fail> {
+    let alloc = rt.alloc();
+    let lines: &[&[u8]] = &[
+        b"\xff",
+        b"\x80",
+        b"\xc0\x80",
+        b"\xed\xa0\x80",
+        b"\xe2\x82",
+        b"\xf4\x90\x80\x80",
+        b" \xa0",
+    ];
+    for line in lines {
+        let mut bytes = Vec::new(alloc);
+        bytes.extend_from_slice(ONE_STORE.as_bytes())?;
+        bytes.extend_from_slice(line)?;
+        is_fault(&rt, alloc, &bytes, "3 number 1 NotText", "no text")?;
+        is_fault(&rt, alloc, line, "1 number 1 NotText", "no text alone")?;
+    }
+    Ok(())
+}
+
+#[test]
+fn a_scenario_that_is_cut_has_a_fault_but_between_lines(rt: HostRuntime) -> Result<(), Fail> {
+    let alloc = rt.alloc();
+    let whole = joined(alloc, &[STORES, SET_AT_A, SHOWN])?;
+    is_fault(&rt, alloc, &[], "1 number 3 NoLab", "nothing")?;
+    let mut line = 1u64;
+    for count in 1..whole.len() {
+        let ends = whole[count - 1] == b'\n';
+        if ends || whole[count] == b'\n' {
+            let given = replayed(alloc, &whole[..count])?;
+            assert_eq!(rt; given.status, 0, "cut behind {count} bytes");
+        } else {
+            let fault = format!(in alloc; "{line} number 2 BadJson")?;
+            is_fault(&rt, alloc, &whole[..count], fault.as_str(), "a cut line")?;
+        }
+        if whole[count] == b'\n' {
+            line = line.saturating_add(1);
+        }
     }
     Ok(())
 }

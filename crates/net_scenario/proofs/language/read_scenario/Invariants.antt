@@ -1,0 +1,16 @@
+use Rattle.std.proofs.Common.{◌≡◌, ◌+◌, ◌-◌, ◌≤◌, length}
+use Rattle.net_scenario.specs.Seen.{nothing_seen}
+use Rattle.net_scenario.specs.Language.{lines_in, lines_of, placed, lines_read}
+use Rattle.net_scenario.specs.Tallied.{seen_in, IsTallied}
+use Rattle.net_scenario.proofs.language.read_scenario.Given as goal
+
+abbrev pub invariant-loop-left : goal.invariant-loop-left
+invariant-loop-left l = record {
+  within : length l.left ≤ length l.bytes;
+  counted : l.number + length l.left ≤ length l.bytes + 1;
+  tallied : IsTallied l.draft;
+  same : lines_read (seen_in l.draft) l.turns (placed (length l.bytes) l.number (length l.bytes - length l.left) (lines_in l.left)) ≡ lines_read nothing_seen l.turns (lines_of l.bytes);
+}
+
+abbrev pub decreases-loop-left : goal.decreases-loop-left
+decreases-loop-left l = length l.left

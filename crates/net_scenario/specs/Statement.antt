@@ -1,0 +1,101 @@
+-- What a line without faults says. Each reading is total: of a faulty line it isn't used.
+use Rattle.std.specs.Prelude.{ℕ, ◌%◌, ◌^◌, List, codes, false, unwrap_or, refl}
+use Rattle.serde_json.specs.Data.{Data}
+use Rattle.or_base.specs.declared.database.PrefixEntry.{PrefixEntry}
+use Rattle.or_base.specs.declared.prefix.Prefix.{Prefix}
+use Rattle.or_base.specs.declared.value.Pair.{Pair}
+use Rattle.net_fields.specs.declared.word.Word.{Word}
+use Rattle.net_fields.specs.declared.word.Word.TheVariants as word
+use Rattle.net_fields.specs.Members.{text_at, text_or, number_at, number_or, flag_at, kind_at, show_at, prefix_at, value_at, numbers_at, acts_at}
+use Rattle.net_scenario.specs.declared.declared.LinkDecl.{LinkDecl}
+use Rattle.net_scenario.specs.declared.command.Command.{Command}
+use Rattle.net_scenario.specs.declared.command.Command.TheVariants.{Settle, Tick, Set, Own, Disown, Sync, Restart, Up, Down, Script, Get, Drain, LinkDrain, Metric, Advertise, Withdraw, Aggregate, Ask}
+use Rattle.net_scenario.specs.declared.statement.Statement.{Statement}
+use Rattle.net_scenario.specs.declared.statement.Statement.TheVariants as says
+use Rattle.net_scenario.specs.Conditions.{interface_a, interface_b}
+
+-- a number of 32 bits
+abbrev pub small_or : List ℕ → ℕ → Data → ℕ
+small_or name default d = number_or name default d % 2 ^ 32
+
+abbrev pub link_at : Data → ℕ
+link_at d = small_or (codes "link") 0 d
+
+abbrev pub node_at : Data → List ℕ
+node_at d = text_at (codes "node") d
+
+abbrev pub key_at : Data → List ℕ
+key_at d = text_at (codes "key") d
+
+-- the prefix of all IPv4 addresses, which stands where a faulty line says none
+abbrev pub any_prefix : Prefix
+any_prefix = record { v6 = false; bits = 0; len = 0; sound = refl }
+
+abbrev pub prefix_or_any : Data → Prefix
+prefix_or_any d = unwrap_or (prefix_at (codes "prefix") d) any_prefix
+
+unfoldable pub link_of : Data → LinkDecl
+link_of d = record {
+  a = text_at (codes "a") d;
+  aif = interface_a d;
+  am = small_or (codes "am") 1 d;
+  b = text_at (codes "b") d;
+  bif = interface_b d;
+  bm = small_or (codes "bm") 1 d;
+}
+
+-- the originator of a value: by default the node
+abbrev pub originator_at : Data → List ℕ
+originator_at d = text_or (codes "originator") (node_at d) d
+
+unfoldable pub pair_of : Data → Pair
+pair_of d = record {
+  key = key_at d;
+  value = record {
+    version = number_or (codes "version") 0 d;
+    originator = originator_at d;
+    value = value_at d;
+    ttl = number_at (codes "ttl") d;
+    ttl_version = number_or (codes "ttlv") 0 d;
+  };
+}
+
+unfoldable pub entry_of : Data → PrefixEntry
+entry_of d = record {
+  prefix = prefix_or_any d;
+  path = small_or (codes "path") 1000 d;
+  source = small_or (codes "source") 100 d;
+  distance = small_or (codes "distance") 0 d;
+}
+
+-- what is done: the commands of full laboratories alone
+unfoldable pub routing_command_of : Word → Data → Command
+routing_command_of word.Drain d = Drain (node_at d) (flag_at (codes "on") d)
+routing_command_of word.LinkDrain d = LinkDrain (node_at d) (link_at d) (flag_at (codes "on") d)
+routing_command_of word.Metric d = Metric (node_at d) (link_at d) (small_or (codes "metric") 0 d)
+routing_command_of word.Advertise d = Advertise (node_at d) (entry_of d)
+routing_command_of word.Withdraw d = Withdraw (node_at d) (prefix_or_any d)
+routing_command_of word.Aggregate d = Aggregate (node_at d) (prefix_or_any d) (small_or (codes "min") 0 d)
+routing_command_of _ d = Ask (node_at d) (prefix_or_any d)
+
+-- what is done
+unfoldable pub command_of : Word → Data → Command
+command_of word.Settle d = Settle (number_or (codes "rounds") 1000 d) (show_at (codes "show") d)
+command_of word.Tick d = Tick (number_or (codes "to") 0 d)
+command_of word.Set d = Set (node_at d) (pair_of d)
+command_of word.Own d = Own (node_at d) (key_at d) (value_at d) (number_at (codes "ttl") d)
+command_of word.Disown d = Disown (node_at d) (key_at d)
+command_of word.Sync d = Sync (node_at d) (link_at d)
+command_of word.Restart d = Restart (node_at d)
+command_of word.Up d = Up (link_at d)
+command_of word.Down d = Down (link_at d)
+command_of word.Script d = Script (link_at d) (text_at (codes "from") d) (acts_at (codes "acts") d)
+command_of word.Get d = Get (node_at d) (key_at d)
+command_of w d = routing_command_of w d
+
+unfoldable pub statement_of : Word → Data → Statement
+statement_of word.Lab d = says.Lab (kind_at (codes "kind") d) (number_at (codes "ttl") d)
+statement_of word.Node d = says.Node (record { name = text_at (codes "name") d; faults = numbers_at (codes "faults") d })
+statement_of word.Link d = says.Link (link_of d)
+statement_of word.Turn d = says.Turn (record { lane = small_or (codes "lane") 0 d; at = number_or (codes "at") 0 d })
+statement_of w d = says.Command (command_of w d)

@@ -1,0 +1,177 @@
+//! A scenario as bytes: its lines, read one after another.
+
+ghost use Rattle.std.specs.Prelude.{◌≡◌, ◌+◌, ◌<◌, ◌≤◌, ◌∷◌, min, length, IfOk, OnOk};
+ghost use Rattle.net_scenario.specs.Faults.{line_of};
+ghost use Rattle.net_scenario.specs.Gives.{GivesSeen, GivesScenario};
+ghost use Rattle.net_scenario.specs.Language.{is_blank_byte, is_blank, is_all_blank, lines_in, fault_at, after_line, line_step, scenario_of};
+ghost use Rattle.net_scenario.specs.Limits.{ends_in_settle};
+ghost use Rattle.net_scenario.specs.Seen.{closed, given, scenario_in};
+ghost use Rattle.net_scenario.specs.Tallied.{seen_in, line_at, IsTallied};
+ghost use Rattle.net_scenario.specs.declared.fault.ReadRefusal.TheVariants.{Fault};
+
+use crate::command::Command;
+use crate::draft::Draft;
+use crate::fault::{LineRefusal, ReadRefusal, ScenarioFault};
+use crate::line::{LineRead, read_line};
+use crate::scenario::Scenario;
+use crate::schedule::{Schedule, Turn};
+use net_fields::Show;
+use or_base::{NoMemory, Seq};
+use std::alloc::Global;
+
+/// Space, tab or CR.
+fn is_blank_byte(byte: u8) -> bool
+    ensures { result ≡ is_blank_byte byte }
+{
+    byte == b' ' || byte == b'\t' || byte == b'\r'
+}
+
+/// The line says nothing.
+fn is_blank(text: &[u8]) -> bool
+    ensures { result ≡ is_blank text.now }
+{
+    text.iter().all(|&byte| is_blank_byte(byte))
+}
+
+/// Every line says nothing.
+fn is_all_blank(bytes: &[u8]) -> bool
+    ensures { result ≡ is_all_blank bytes.now }
+{
+    bytes
+        .iter()
+        .all(|&byte| is_blank_byte(byte) || byte == b'\n')
+}
+
+/// The first line without its LF, and what comes after it.
+#[tactic(auto, using(crate::proofs::Cuts::cuts, std::proofs::lemmas::List::take_rest))]
+fn first_line(bytes: &[u8]) -> (&[u8], &[u8])
+    requires { 0 < length bytes.now }
+    ensures line { lines_in bytes.now ≡ result.0.now ∷ lines_in result.1.now }
+    ensures less { length result.1.now < length bytes.now }
+    ensures all { min (length result.0.now + 1) (length bytes.now) + length result.1.now ≡ length bytes.now }
+{
+    let mut count = 0;
+    while count < bytes.len() {
+        if bytes[count] == b'\n' {
+            return (&bytes[..count], &bytes[count + 1..]);
+        }
+        count += 1;
+    }
+    (bytes, &bytes[count..])
+}
+
+/// A fault of the line.
+fn fault_at(line: &LineRead<'_>, number: u8) -> ReadRefusal
+    ensures { result ≡ Fault (fault_at line.now.number number) }
+{
+    ReadRefusal::Fault(ScenarioFault {
+        line: line.number,
+        number,
+    })
+}
+
+/// Reads a line that isn't blank into the draft.
+#[tactic(auto, using(crate::proofs::Admitted::line_admitted))]
+fn read_said(alloc: Global, draft: &mut Draft, line: &LineRead<'_>) -> Result<(), ReadRefusal>
+    requires { IsTallied draft.old }
+    ensures gives { GivesSeen (seen_in draft.new) result
+        (after_line (seen_in draft.old) line.now.number (line_of (seen_in draft.old) line.now.turns (line_at line.now))) }
+    ensures tallied { OnOk result (IsTallied draft.new) }
+{
+    match read_line(alloc, draft, line) {
+        Ok(statement) => {
+            draft.add(alloc, statement)?;
+            Ok(())
+        }
+        Err(LineRefusal::Fault { number }) => Err(fault_at(line, number)),
+        Err(LineRefusal::NoMemory) => Err(ReadRefusal::NoMemory),
+    }
+}
+
+/// Reads a line into the draft.
+#[tactic(auto, unfolding(crate::specs::Language::line_step))]
+fn read_into(alloc: Global, draft: &mut Draft, line: &LineRead<'_>) -> Result<(), ReadRefusal>
+    requires { IsTallied draft.old }
+    ensures gives { GivesSeen (seen_in draft.new) result (line_step (seen_in draft.old) line.now.turns (line_at line.now)) }
+    ensures tallied { OnOk result (IsTallied draft.new) }
+{
+    if !is_blank(line.text) {
+        return read_said(alloc, draft, line);
+    }
+    if line.is_late() {
+        return Err(fault_at(line, 11));
+    }
+    Ok(())
+}
+
+/// The commands, with a settle at their end.
+fn closed(commands: Vec<Command>, is_settled: bool) -> Result<Vec<Command>, NoMemory>
+    requires { is_settled ≡ ends_in_settle commands.items }
+    ensures { IfOk result (λ all. all.items ≡ closed commands.items) }
+{
+    let mut all = commands;
+    if !is_settled {
+        all.push(Command::Settle {
+            rounds: 1000,
+            show: Show::Both,
+        })?;
+    }
+    Ok(all)
+}
+
+/// The turns, where there are some.
+fn given(turns: Vec<Turn>) -> Option<Schedule>
+    ensures { result ≡ given turns.items }
+{
+    if turns.is_empty() {
+        return None;
+    }
+    Some(Schedule {
+        turns: Seq::from_vec(turns),
+    })
+}
+
+/// The scenario that the lines say.
+#[tactic(auto, unfolding(crate::specs::Seen::scenario_in), using(crate::proofs::Soundness::scenario_is_sound))]
+fn finished(draft: Draft) -> Result<Scenario, NoMemory>
+    requires { IsTallied draft }
+    ensures { IfOk result (λ scenario. scenario ≡ scenario_in (seen_in draft)) }
+{
+    let kind = draft.kind();
+    Ok(Scenario {
+        kind,
+        ttl: draft.ttl,
+        nodes: Seq::from_vec(draft.nodes),
+        links: Seq::from_vec(draft.links),
+        commands: Seq::from_vec(closed(draft.commands, draft.tally.is_settled)?),
+        turns: given(draft.turns),
+    })
+}
+
+/// The scenario that bytes are, with turn lines only where `turns` is true; or the first faulty line with the lowest
+/// number of a fault. The time grows in proportion to the bytes, and those of a scenario are 32 MiB at most.
+#[tactic(auto, unfolding(crate::specs::Language::scenario_of), using(crate::proofs::Cuts::placed_next))]
+pub fn read_scenario(alloc: Global, bytes: &[u8], turns: bool) -> Result<Scenario, ReadRefusal>
+    ensures gives { GivesScenario result (scenario_of bytes.now turns) }
+    ensures few { OnOk result (length bytes.now ≤ 33554432) }
+{
+    if is_all_blank(bytes) {
+        return Err(ReadRefusal::Fault(ScenarioFault { line: 1, number: 3 }));
+    }
+    let mut draft = Draft::new(alloc);
+    let mut left = bytes;
+    let mut number = 1;
+    while !left.is_empty() {
+        let (text, rest) = first_line(left);
+        let line = LineRead {
+            text,
+            number,
+            end: (bytes.len() - rest.len()) as u64,
+            turns,
+        };
+        read_into(alloc, &mut draft, &line)?;
+        number += 1;
+        left = rest;
+    }
+    Ok(finished(draft)?)
+}

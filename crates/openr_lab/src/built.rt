@@ -1,0 +1,50 @@
+ghost use Rattle.std.specs.Prelude.{◌≡◌};
+ghost use Rattle.std.specs.List.{list_all};
+ghost use Rattle.openr_lab.specs.Built.{is_mode_built, is_command_built, is_lab_built, is_built};
+
+use lab_words::{Mode, Words};
+use net_scenario::{Command, Kind, Scenario};
+
+/// The program has the mode.
+pub fn is_mode_built(mode: Mode) -> bool
+    ensures { result ≡ is_mode_built mode }
+{
+    matches!(mode, Mode::Replay)
+}
+
+/// The program runs the command.
+fn is_command_built(command: &Command) -> bool
+    ensures { result ≡ is_command_built command.now }
+{
+    match command {
+        Command::Settle { rounds, .. } => *rounds == 1000,
+        Command::Set { pair, .. } => pair.value.ttl.is_none(),
+        _other => false,
+    }
+}
+
+/// The program runs each of the commands.
+fn are_commands_built(commands: &[Command]) -> bool
+    ensures { result ≡ list_all is_command_built commands.now }
+{
+    commands.iter().all(|command| is_command_built(command))
+}
+
+/// The program runs the laboratory.
+#[tactic(auto, unfolding(crate::specs::Built::is_lab_built))]
+fn is_lab_built(scenario: &Scenario) -> bool
+    ensures { result ≡ is_lab_built scenario.now }
+{
+    scenario.kind == Kind::Stores
+        && scenario.nodes().len() <= 2
+        && scenario.links().len() <= 1
+        && are_commands_built(scenario.commands())
+        && scenario.turns.is_none()
+}
+
+/// The program runs the scenario in the mode that was asked for. It takes no memory.
+pub fn built(words: &Words, scenario: &Scenario) -> bool
+    ensures { result ≡ is_built words.now scenario.now }
+{
+    is_mode_built(words.mode) && is_lab_built(scenario)
+}
