@@ -2,15 +2,17 @@
 //!
 //! A store offers it pairs and looks values up. An offer is merged exactly where the pair is within the limits and
 //! its value exceeds what is held under its key (`offer`, defined in or_base); every merge is an entry at the end of
-//! the journal, with its moment and its origin, and nothing else changes the table. Contracts see the table as its
-//! journal, so what they say of it stays true of any faster table. This is the plain body: a look-up scans the
+//! the journal, with its moment and its origin. Keys with a lifetime are lost when their deadline is reached, with an
+//! entry for each (`expire`, defined in `specs/Expiry.antt`); nothing else changes the table. Contracts see the table
+//! as its journal, so what they say of it stays true of any faster table. This is the plain body: a look-up scans the
 //! journal from its end (or_base's `held_under`), so its time is linear in the journal's length. The promise is
 //! that `get` is `holds` and `offer` is `offer` of or_base, to the entry; the law that the greatest value offered is
 //! held follows from or_base's `offers_hold_greatest`.
 //!
-//! The files: `offered` (what becomes of an offer), `table`.
+//! The files: `expiry` (the deadlines that are due), `offered` (what becomes of an offer), `table`.
 #![tactic(auto)]
 
+mod expiry;
 mod offered;
 mod table;
 
@@ -21,7 +23,7 @@ pub use table::KvTable;
 #[cfg(test)]
 mod tests {
     use super::*;
-    use or_base::{Bytes, Key, KvValue, Name, Origin, Pair};
+    use or_base::{Bytes, JournalEntry, Key, KvValue, Name, Origin, Pair};
     use std::alloc::Global;
     use std::test::Fail;
 
@@ -61,6 +63,55 @@ mod tests {
         assert_eq!(rt; held.value.ttl_version, 1);
         assert_eq!(rt; held.merged_at, 12);
         assert_eq!(rt; table.journal().len(), 3);
+        Ok(())
+    }
+
+    /// Merges a pair that lives for some milliseconds.
+    fn merge(
+        table: &mut KvTable,
+        alloc: Global,
+        key: &str,
+        now: u64,
+        ttl: u64,
+    ) -> Result<(), Fail> {
+        let Pair { key, mut value } = pair(alloc, key, &[1], 0)?;
+        value.ttl = Some(ttl);
+        table.offer(Pair { key, value }, now, Origin::Local)?;
+        Ok(())
+    }
+
+    #[test]
+    fn what_reached_its_deadline_is_lost(rt: HostRuntime) -> Result<(), Fail> {
+        let alloc = rt.alloc();
+        let mut table = KvTable::new(alloc)?;
+        table.offer(pair(alloc, "forever", &[1], 0)?, 0, Origin::Local)?;
+        merge(&mut table, alloc, "x", 0, 10)?;
+        assert_eq!(rt; table.expire(9)?, 0);
+        assert_eq!(rt; table.journal().len(), 2);
+        assert_eq!(rt; table.expire(10)?, 1);
+        assert_eq!(rt; table.journal().len(), 3);
+        let key = Key::from_string(String::from_str(alloc, "x")?);
+        assert!(rt; table.get(&key).is_none());
+        Ok(())
+    }
+
+    #[test]
+    fn keys_are_lost_by_deadline_and_then_by_key(rt: HostRuntime) -> Result<(), Fail> {
+        let alloc = rt.alloc();
+        let mut table = KvTable::new(alloc)?;
+        merge(&mut table, alloc, "b", 0, 10)?;
+        merge(&mut table, alloc, "a", 3, 7)?;
+        merge(&mut table, alloc, "c", 0, 9)?;
+        assert_eq!(rt; table.expire(12)?, 3);
+        let lost = table.journal().get(3..).ok_or("nothing is lost")?;
+        let mut keys = String::new(alloc);
+        for entry in lost {
+            if let JournalEntry::Expired { key, at } = entry {
+                assert_eq!(rt; *at, 12);
+                keys.push_str(key.as_str())?;
+            }
+        }
+        assert_eq!(rt; keys.as_str(), "cab");
         Ok(())
     }
 }

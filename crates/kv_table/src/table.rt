@@ -1,5 +1,6 @@
-ghost use Rattle.std.specs.Prelude.{◌≡◌, [], IfOk, OnOk, OnErr};
+ghost use Rattle.std.specs.Prelude.{◌≡◌, [], length, IfOk, OnOk, OnErr};
 
+use crate::expiry::{Due, deadlines_due};
 use crate::offered::Offered;
 use kv_value::compare;
 use or_base::{Held, JournalEntry, Key, NoMemory, Origin, Pair, held_under, is_valid_pair};
@@ -26,6 +27,7 @@ impl KvTable {
     ghost use Rattle.std.specs.Option.{option_map};
     ghost use Rattle.or_base.specs.Journal.{holds, offer};
     ghost use Rattle.kv_table.specs.Offered.{offered_of};
+    ghost use Rattle.kv_table.specs.Expiry.{due, expire};
 
     /// A table that holds nothing.
     pub fn new(alloc: Global) -> Result<KvTable, NoMemory>
@@ -71,5 +73,24 @@ impl KvTable {
             origin,
         })?;
         Ok(Offered::Changed)
+    }
+
+    /// Loses each key whose deadline is at most `now`, by deadline and then by key, and tells how many. A key's deadline
+    /// is the moment of its merge and its time to live; what is held for ever has none. Where memory runs out the table
+    /// stays as it was.
+    pub fn expire(&mut self, now: u64) -> Result<u64, NoMemory>
+        ensures count { IfOk result (λ n. n ≡ length (due self.old now)) }
+        ensures ok { OnOk result (self.new ≡ expire self.old now) }
+        ensures err { OnErr result (self.new ≡ self.old) }
+    {
+        let alloc = *self.entries.allocator();
+        let lost = deadlines_due(alloc, self.entries.as_slice(), now)?;
+        let count = lost.len() as u64;
+        self.entries.reserve(lost.len())?;
+        for Due { key, .. } in lost {
+            self.entries
+                .push_reserved(JournalEntry::Expired { key, at: now });
+        }
+        Ok(count)
     }
 }
