@@ -1,35 +1,61 @@
 -- Floods to the peers of a store, whose links have small numbers.
-use Rattle.std.proofs.Common.{◌≡◌, ℕ, ◌<◌, ◌^◌, List, [], ◌∷◌, ◌++◌, true, ◌&&◌, refl, sym, ◌∙◌, ap, append_assoc, arith}
+use Rattle.std.proofs.Common.{◌≡◌, ℕ, ◌<◌, ◌^◌, List, [], ◌∷◌, ◌++◌, Option, Some, None, Bool, true, false, ◌&&◌, if◌then◌else◌, refl, sym, ◌∙◌, ap, append_assoc, arith}
 use Rattle.std.specs.Prelude.{All}
-use Rattle.std.specs.Map.{keys_of}
+use Rattle.std.specs.List.{flat_map}
+use Rattle.std.specs.Map.{keys_of, remove_entry}
 use Rattle.std.specs.Ordering.{nat_cmp}
-use Rattle.std.specs.BTreeMap.{insert_entry}
+use Rattle.std.specs.BTreeMap.{insert_entry, is_at}
 use Rattle.std.proofs.lemmas.List.Elements.{All-head, All-tail, All-same}
+use Rattle.std.proofs.lemmas.List.Folds.{list_all-append}
 use Rattle.std.proofs.lemmas.Bool.Decides.{nat_tests}
-use Rattle.std.proofs.lemmas.Map.Views.{All-keys-insert_entry}
-use Rattle.or_base.specs.declared.value.Pair.{Pair}
+use Rattle.std.proofs.lemmas.Map.Views.{All-keys-insert_entry, All-map-remove_entry}
+use Rattle.or_base.specs.declared.entry.JournalEntry.{JournalEntry}
+use Rattle.or_base.specs.declared.message.Msg.{Msg}
 use Rattle.or_actor.specs.declared.output.Output.{Output}
 use Rattle.or_actor.specs.Fits.{sends_small_link, have_small_links}
-use Rattle.kv_store.specs.Store.{flood_on, floods}
+use Rattle.kv_flood.specs.Flooding.{is_target, flood_message}
+use Rattle.kv_store.specs.Store.{StoreState, message_on, relay_to, begin_to, floods_to, relayed_keys, own_keys, floods}
 
-sends_small_link-flood_on : (me : List ℕ) (pair : Pair) (link : ℕ) → link < 2 ^ 31 → sends_small_link (flood_on me pair link) ≡ true
-unfolding flood_on
-sends_small_link-flood_on me pair link h = grind (arith, nat_tests)
+-- ---- what floods name
+
+small_message : (me : List ℕ) (link : ℕ) (msg : Option Msg) → link < 2 ^ 31 → have_small_links (message_on me link msg) ≡ true
+small_message me link None small = refl
+small_message me link (Some msg) small = grind (arith, nat_tests)
+
+small_if : (test : Bool) (outputs : List Output) → have_small_links outputs ≡ true → have_small_links (if test then outputs else []) ≡ true
+small_if true outputs small = small
+small_if false outputs small = refl
+
+small_both : (xs ys : List Output) → have_small_links xs ≡ true → have_small_links ys ≡ true → have_small_links (xs ++ ys) ≡ true
+small_both xs ys hx hy =
+    list_all-append sends_small_link xs ys ∙ ap (λ b. b && have_small_links ys) hx ∙ hy
+
+small_to : (me : List ℕ) (journal : List JournalEntry) (now : ℕ) (relayed passed own : List (List ℕ)) (peer : ℕ × List ℕ) → peer.0 < 2 ^ 31
+    → have_small_links (floods_to me journal now relayed passed own peer) ≡ true
+unfolding relay_to begin_to
+small_to me journal now relayed passed own peer small =
+    small_both (relay_to me journal now relayed passed peer) (begin_to me journal now own peer)
+    (small_if (is_target me peer.1 passed) (message_on me peer.0 (flood_message journal now relayed passed me))
+    (small_message me peer.0 (flood_message journal now relayed passed me) small))
+    (small_message me peer.0 (flood_message journal now own [] me) small)
+
+small_all : (me : List ℕ) (journal : List JournalEntry) (now : ℕ) (relayed passed own : List (List ℕ)) (peers : List (ℕ × List ℕ)) → All (λ link. link < 2 ^ 31) (keys_of peers)
+    → have_small_links (flat_map (floods_to me journal now relayed passed own) peers) ≡ true
+small_all me journal now relayed passed own [] h = refl
+small_all me journal now relayed passed own (p ∷ peers) h =
+    small_both (floods_to me journal now relayed passed own p) (flat_map (floods_to me journal now relayed passed own) peers)
+    (small_to me journal now relayed passed own p (All-head (λ link. link < 2 ^ 31) p.0 (keys_of peers) h))
+    (small_all me journal now relayed passed own peers (All-tail (λ link. link < 2 ^ 31) p.0 (keys_of peers) h))
 
 -- floods to peers on links with small numbers name such links
-pub have_small_links-floods : (me : List ℕ) (pair : Pair) (peers : List (ℕ × List ℕ)) → All (λ link. link < 2 ^ 31) (keys_of peers)
-    → have_small_links (floods me pair peers) ≡ true
-have_small_links-floods me pair [] h = refl
-have_small_links-floods me pair (p ∷ peers) h =
-    ap (λ b. b && have_small_links (floods me pair peers)) (sends_small_link-flood_on me pair p.0 (All-head (λ link. link < 2 ^ 31) p.0 (keys_of peers) h))
-    ∙ have_small_links-floods me pair peers (All-tail (λ link. link < 2 ^ 31) p.0 (keys_of peers) h)
+pub have_small_links-floods : (s : StoreState) (entries : List JournalEntry) (passed : List (List ℕ)) → All (λ link. link < 2 ^ 31) (keys_of s.peers)
+    → have_small_links (floods s entries passed) ≡ true
+unfolding floods
+have_small_links-floods s entries passed h = small_all s.me s.journal s.moment (relayed_keys entries) passed (own_keys entries) s.peers h
 
--- one flood more
-pub flooded_more : (me : List ℕ) (pair : Pair) (p : ℕ × List ℕ) (left rest : List (ℕ × List ℕ)) (out after all : List Output)
-    → left ≡ p ∷ rest → after ≡ out ++ flood_on me pair p.0 ∷ [] → out ++ floods me pair left ≡ all → after ++ floods me pair rest ≡ all
-flooded_more me pair p left rest out after all e sent h =
-    ap (λ xs. xs ++ floods me pair rest) sent ∙ append_assoc out (flood_on me pair p.0 ∷ []) (floods me pair rest)
-    ∙ sym (ap (λ ps. out ++ floods me pair ps) e) ∙ h
+pub ruleset small_floods = (have_small_links-floods)
+
+-- ---- the peers
 
 -- the links of the other peers
 pub small_rest : (p : ℕ × List ℕ) (left rest : List (ℕ × List ℕ)) → left ≡ p ∷ rest → All (λ link. link < 2 ^ 31) (keys_of left) → All (λ link. link < 2 ^ 31) (keys_of rest)
@@ -46,4 +72,16 @@ small_with link peer peers after e h small =
     All-same (λ l. l < 2 ^ 31) (keys_of after) (keys_of (insert_entry nat_cmp peers link peer)) (ap keys_of e)
     (All-keys-insert_entry nat_cmp link peer (λ l. l < 2 ^ 31) peers h small)
 
-pub ruleset small_floods = (have_small_links-floods)
+-- one peer less
+pub small_without : (link : ℕ) (peers after : List (ℕ × List ℕ)) → after ≡ remove_entry (is_at (nat_cmp link)) peers
+    → All (λ l. l < 2 ^ 31) (keys_of peers) → All (λ l. l < 2 ^ 31) (keys_of after)
+small_without link peers after e h =
+    All-same (λ l. l < 2 ^ 31) (keys_of after) (keys_of (remove_entry (is_at (nat_cmp link)) peers)) (ap keys_of e)
+    (All-map-remove_entry (is_at (nat_cmp link)) (λ p. p.0) (λ l. l < 2 ^ 31) peers h)
+
+-- one peer's floods more
+pub flooded_more : (to : ℕ × List ℕ → List Output) (p : ℕ × List ℕ) (left rest : List (ℕ × List ℕ)) (out after all : List Output)
+    → left ≡ p ∷ rest → after ≡ out ++ to p → out ++ flat_map to left ≡ all → after ++ flat_map to rest ≡ all
+flooded_more to p left rest out after all e sent h =
+    ap (λ xs. xs ++ flat_map to rest) sent ∙ append_assoc out (to p) (flat_map to rest)
+    ∙ sym (ap (λ ps. out ++ flat_map to ps) e) ∙ h

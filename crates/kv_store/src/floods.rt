@@ -1,86 +1,174 @@
-ghost use Rattle.std.specs.Prelude.{◌≡◌, ◌++◌, ◌<◌, ◌^◌, [], ◌∷◌, All, IsTrue, map, IfOk, OnOk};
-ghost use Rattle.std.specs.Str.{bytes_eq};
-ghost use Rattle.std.specs.List.{list_any};
-ghost use Rattle.std.specs.BTreeMap.{keys};
-ghost use Rattle.or_actor.specs.Fits.{have_small_links};
-ghost use Rattle.kv_store.specs.Store.{offer_all, flood_on, floods};
+//! What a turn floods: which keys, to whom, and in which order.
 
+ghost use Rattle.std.specs.Prelude.{◌≡◌, ◌++◌, ◌<◌, ◌^◌, All, None, IfOk, OnOk};
+ghost use Rattle.std.specs.List.{flat_map};
+ghost use Rattle.std.specs.Map.{keys_of};
+ghost use Rattle.kv_store.specs.Store.{origin_after, begins_here, is_own, own_keys, relayed_keys, message_on, relay_to, begin_to};
+
+use kv_flood::{flood_message, flood_target};
 use kv_table::KvTable;
 use or_actor::{FIRST_LINK_PORT, Outbox};
-use or_base::{Item, Msg, Name, NoMemory, Origin, Pair, Seq};
+use or_base::{Item, JournalEntry, Key, Msg, Name, NoMemory, Origin, held_keys};
 use std::alloc::Global;
 use std::collections::BTreeMap;
 
-/// Offers pairs, in order.
-pub fn offer_all(
-    table: &mut KvTable,
-    pairs: Vec<Pair>,
-    now: u64,
-    origin: Origin,
-) -> Result<(), NoMemory>
-    ensures { OnOk result (table.new ≡ offer_all table.old pairs.items now origin) }
+/// The origin of the last of these entries that merged the key.
+fn origin_of(entries: &[JournalEntry], key: &Key) -> Option<Origin>
+    ensures { result ≡ origin_after key.now None entries.now }
 {
-    for pair in pairs {
-        table.offer(pair, now, origin)?;
+    let mut found = None;
+    for entry in entries {
+        if let JournalEntry::Merged { pair, origin, .. } = entry {
+            if pair.key.as_str() == key.as_str() {
+                found = Some(*origin);
+            }
+        }
     }
-    Ok(())
+    found
 }
 
-/// The name is one of these.
-pub fn is_among(me: &Name, names: &[Name]) -> bool
-    ensures { result ≡ list_any (bytes_eq me.now) names.now }
+/// The origin is this node's own wish.
+fn begins_here(origin: Origin) -> bool
+    ensures { result ≡ begins_here origin }
 {
-    let me = me.as_str();
-    names.iter().any(|name| me == name.as_str())
+    matches!(origin, Origin::Local | Origin::Own)
 }
 
-/// A flood of one pair that begins at this node.
-fn flood_of(alloc: Global, me: &Name, pair: &Pair) -> Result<Msg, NoMemory>
-    ensures { IfOk result (λ msg. msg ≡ Msg.Flood (me.now ∷ []) (pair.now ∷ [])) }
+/// The key was merged at this node's own wish.
+#[tactic(auto, unfolding(crate::specs::Store::is_own))]
+fn is_own(entries: &[JournalEntry], key: &Key) -> bool
+    ensures { result ≡ is_own entries.now key.now }
 {
-    let mut passed = Vec::new(alloc);
-    passed.push(me.copied()?)?;
-    let mut pairs = Vec::new(alloc);
-    pairs.push(pair.copied()?)?;
-    Ok(Msg::Flood {
-        passed: Seq::from_vec(passed),
-        pairs: Seq::from_vec(pairs),
-    })
+    match origin_of(entries, key) {
+        Some(origin) => begins_here(origin),
+        None => false,
+    }
 }
 
-/// Floods one pair to the peer on a link.
-#[tactic(auto, unfolding(crate::specs::Store::flood_on))]
-fn flood_on(
-    alloc: Global,
-    me: &Name,
-    pair: &Pair,
-    link: u32,
-    out: &mut Outbox,
-) -> Result<(), NoMemory>
+/// The keys of a turn's entries that were merged at this node's own wish.
+#[tactic(auto, unfolding(crate::specs::Store::own_keys))]
+pub fn own_keys(alloc: Global, entries: &[JournalEntry]) -> Result<Vec<Key>, NoMemory>
+    ensures { IfOk result (λ keys. keys.items ≡ own_keys entries.now) }
+{
+    let mut keys = Vec::new(alloc);
+    for key in held_keys(alloc, entries)? {
+        if is_own(entries, &key) {
+            keys.push(key)?;
+        }
+    }
+    Ok(keys)
+}
+
+/// The other keys of a turn's entries.
+#[tactic(auto, unfolding(crate::specs::Store::relayed_keys))]
+pub fn relayed_keys(alloc: Global, entries: &[JournalEntry]) -> Result<Vec<Key>, NoMemory>
+    ensures { IfOk result (λ keys. keys.items ≡ relayed_keys entries.now) }
+{
+    let mut keys = Vec::new(alloc);
+    for key in held_keys(alloc, entries)? {
+        if !is_own(entries, &key) {
+            keys.push(key)?;
+        }
+    }
+    Ok(keys)
+}
+
+/// Sends a message to the peer on a link, if there is one.
+fn send_on(me: &Name, link: u32, msg: Option<Msg>, out: &mut Outbox) -> Result<(), NoMemory>
     requires { link < 2 ^ 31 }
-    ensures { OnOk result (out.new ≡ out.old ++ flood_on me.now pair.now link ∷ []) }
+    ensures sent { OnOk result (out.new ≡ out.old ++ message_on me.now link msg) }
 {
-    let msg = flood_of(alloc, me, pair)?;
-    let from = me.copied()?;
-    out.send(FIRST_LINK_PORT + link, Item::Net { link, from, msg })?;
+    if let Some(msg) = msg {
+        let from = me.copied()?;
+        out.send(FIRST_LINK_PORT + link, Item::Net { link, from, msg })?;
+    }
     Ok(())
 }
 
-/// Floods one pair to each peer, in the order of links.
-#[tactic(auto, using(crate::proofs::Peers::small_floods))]
-pub fn flood_all(
-    alloc: Global,
-    me: &Name,
-    peers: &BTreeMap<u32, Name>,
-    pair: &Pair,
-    out: &mut Outbox,
-) -> Result<(), NoMemory>
-    requires { All (λ link. link < 2 ^ 31) (keys peers.now) }
-    ensures sent { OnOk result (out.new ≡ out.old ++ floods me.now pair.now peers.now.entries) }
-    ensures small { IsTrue (have_small_links (floods me.now pair.now peers.now.entries)) }
-{
-    for (link, _peer) in peers {
-        flood_on(alloc, me, pair, *link, out)?;
+/// What a turn floods.
+#[derive(Clone, Copy)]
+pub struct Floods<'a> {
+    pub me: &'a Name,
+    pub table: &'a KvTable,
+    pub moment: u64,
+    /// The keys that are passed on, and the nodes that they have passed.
+    pub relayed: &'a [Key],
+    pub passed: &'a [Name],
+    /// The keys whose flood begins here.
+    pub own: &'a [Key],
+}
+
+impl Floods<'_> {
+    ghost use Rattle.kv_store.specs.Floods.{flooded_to};
+
+    /// Passes the keys on to a peer that the flood hasn't passed.
+    #[tactic(auto, unfolding(crate::specs::Store::relay_to))]
+    fn relay_to(
+        &self,
+        alloc: Global,
+        link: u32,
+        peer: &Name,
+        out: &mut Outbox,
+    ) -> Result<(), NoMemory>
+        requires { link < 2 ^ 31 }
+        ensures { OnOk result (out.new ≡ out.old
+            ++ relay_to self.now.me.now self.now.table.now self.now.moment self.now.relayed.now self.now.passed.now (link, peer.now)) }
+    {
+        if flood_target(self.me, peer, self.passed) {
+            let now = self.moment;
+            let msg = flood_message(alloc, self.table, now, self.relayed, self.passed, self.me)?;
+            send_on(self.me, link, msg, out)?;
+        }
+        Ok(())
     }
-    Ok(())
+
+    /// Begins a flood to the peer on a link.
+    #[tactic(auto, unfolding(crate::specs::Store::begin_to))]
+    fn begin_on(
+        &self,
+        alloc: Global,
+        link: u32,
+        peer: &Name,
+        out: &mut Outbox,
+    ) -> Result<(), NoMemory>
+        requires { link < 2 ^ 31 }
+        ensures { OnOk result (out.new ≡ out.old ++ begin_to self.now.me.now self.now.table.now self.now.moment self.now.own.now (link, peer.now)) }
+    {
+        let _peer = peer;
+        let msg = flood_message(alloc, self.table, self.moment, self.own, &[], self.me)?;
+        send_on(self.me, link, msg, out)?;
+        Ok(())
+    }
+
+    /// Both floods to a peer.
+    fn send_to(
+        &self,
+        alloc: Global,
+        link: u32,
+        peer: &Name,
+        out: &mut Outbox,
+    ) -> Result<(), NoMemory>
+        requires { link < 2 ^ 31 }
+        ensures { OnOk result (out.new ≡ out.old ++ flooded_to self.now (link, peer.now)) }
+    {
+        self.relay_to(alloc, link, peer, out)?;
+        self.begin_on(alloc, link, peer, out)?;
+        Ok(())
+    }
+
+    /// The floods to each peer, in the order of links.
+    pub fn send(
+        &self,
+        alloc: Global,
+        peers: &BTreeMap<u32, Name>,
+        out: &mut Outbox,
+    ) -> Result<(), NoMemory>
+        requires { All (λ link. link < 2 ^ 31) (keys_of peers.now.entries) }
+        ensures { OnOk result (out.new ≡ out.old ++ flat_map (flooded_to self.now) peers.now.entries) }
+    {
+        for (link, peer) in peers {
+            self.send_to(alloc, *link, peer, out)?;
+        }
+        Ok(())
+    }
 }

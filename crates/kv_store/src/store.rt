@@ -1,9 +1,11 @@
-ghost use Rattle.std.specs.Prelude.{◌≡◌, ◌++◌, ◌<◌, ◌^◌, IsTrue, IfOk, OnOk};
+ghost use Rattle.std.specs.Prelude.{◌≡◌, ◌++◌, ◌<◌, ◌≤◌, ◌^◌, length, drop, IsTrue, IfOk, OnOk};
 ghost use Rattle.std.specs.Ordering.{nat_cmp};
-ghost use Rattle.std.specs.BTreeMap.{insert_entry};
+ghost use Rattle.std.specs.BTreeMap.{insert_entry, is_at};
+ghost use Rattle.std.specs.Map.{remove_entry};
 
-use crate::floods::{flood_all, is_among, offer_all};
-use kv_table::{KvTable, Offered};
+use crate::floods::{Floods, own_keys, relayed_keys};
+use crate::offers::{is_among, offer_all};
+use kv_table::KvTable;
 use or_actor::{Module, Outbox, has_small_link};
 use or_base::{Item, Msg, Name, NoMemory, Origin, Pair};
 use std::alloc::Global;
@@ -37,7 +39,8 @@ impl KvModule {
     ghost use Rattle.or_base.specs.Journal.{offer};
     ghost use Rattle.or_base.specs.declared.origin.Origin.TheVariants.{Local};
     ghost use Rattle.or_actor.specs.Fits.{has_small_link, have_small_links};
-    ghost use Rattle.kv_store.specs.Store.{new_store, store_step, set_floods, message_step};
+    ghost use Rattle.kv_store.specs.Store.{new_store, message_input, message_passed, input_step, passed_by, floods, store_step};
+    ghost use Rattle.kv_table.specs.Expiry.{expire};
 
     /// The store of a node as it starts.
     pub fn new(alloc: Global, me: Name) -> Result<KvModule, NoMemory>
@@ -67,20 +70,21 @@ impl KvModule {
         self.stale
     }
 
-    /// Offers a pair that is set at this node, and floods it where it is merged.
-    fn take_set(&mut self, pair: Pair, out: &mut Outbox) -> Result<(), NoMemory>
-        ensures state { OnOk result (self.new ≡ record self.old { journal = offer self.old.journal pair self.old.moment Local }) }
-        ensures sent { OnOk result (out.new ≡ out.old ++ set_floods self.old pair) }
-        ensures small { OnOk result (IsTrue (have_small_links (set_floods self.old pair))) }
+    /// The moment is this, and what has reached its deadline is lost.
+    fn take_tick(&mut self, at: u64) -> Result<(), NoMemory>
+        ensures { OnOk result (self.new ≡ record self.old { moment = at; journal = expire self.old.journal at }) }
     {
-        let sent = pair.copied()?;
-        match self.table.offer(pair, self.moment, Origin::Local)? {
-            Offered::Changed => {
-                flood_all(self.alloc, &self.me, &self.peers, &sent, out)?;
-                Ok(())
-            }
-            Offered::Kept | Offered::Invalid => Ok(()),
-        }
+        self.table.expire(at)?;
+        self.moment = at;
+        Ok(())
+    }
+
+    /// Offers a pair that is set at this node.
+    fn take_set(&mut self, pair: Pair) -> Result<(), NoMemory>
+        ensures { OnOk result (self.new ≡ record self.old { journal = offer self.old.journal pair self.old.moment Local }) }
+    {
+        self.table.offer(pair, self.moment, Origin::Local)?;
+        Ok(())
     }
 
     /// The node at the other end of a link can be reached.
@@ -93,9 +97,18 @@ impl KvModule {
         Ok(())
     }
 
-    /// Takes a message of a peer.
-    fn take_message(&mut self, msg: Msg) -> Result<(), NoMemory>
-        ensures { OnOk result (self.new ≡ message_step self.old msg) }
+    /// It can be reached no longer.
+    #[tactic(auto, using(crate::proofs::Peers::small_without))]
+    fn drop_peer(&mut self, link: u32)
+        ensures { self.new ≡ record self.old { peers = remove_entry (is_at (nat_cmp link)) self.old.peers } }
+    {
+        let _peer = self.peers.remove(&link);
+    }
+
+    /// Takes a message of a peer, and gives the nodes that it has passed.
+    fn take_message(&mut self, msg: Msg) -> Result<Vec<Name>, NoMemory>
+        ensures state { OnOk result (self.new ≡ message_input self.old msg) }
+        ensures passed { IfOk result (λ passed. passed.items ≡ message_passed msg) }
     {
         match msg {
             Msg::Flood { passed, pairs } => {
@@ -107,29 +120,67 @@ impl KvModule {
                         Origin::Flood,
                     )?;
                 }
+                Ok(passed.into_vec())
             }
+            _other => Ok(Vec::new(self.alloc)),
+        }
+    }
+
+    /// Takes an item, and gives the nodes that its flood has passed.
+    #[tactic(auto, unfolding(crate::specs::Store::input_step))]
+    fn take(&mut self, item: Item) -> Result<Vec<Name>, NoMemory>
+        requires { IsTrue (has_small_link item) }
+        ensures state { OnOk result (self.new ≡ input_step self.old item) }
+        ensures passed { IfOk result (λ passed. passed.items ≡ passed_by item) }
+    {
+        match item {
+            Item::Tick { at } => self.take_tick(at)?,
+            Item::Set { pair } => self.take_set(pair)?,
+            Item::PeerUp { link, peer } => self.take_peer(link, peer)?,
+            Item::PeerDown { link } => self.drop_peer(link),
+            Item::Net {
+                link: _link,
+                from: _from,
+                msg,
+            } => return Ok(self.take_message(msg)?),
             _other => {}
         }
+        Ok(Vec::new(self.alloc))
+    }
+
+    /// Floods what was merged since the journal had so many entries.
+    #[tactic(auto, unfolding(crate::specs::Store::floods), using(crate::proofs::Peers::small_floods))]
+    fn flood(&self, entries: usize, passed: &[Name], out: &mut Outbox) -> Result<(), NoMemory>
+        requires { entries ≤ length self.now.journal }
+        ensures sent { OnOk result (out.new ≡ out.old ++ floods self.now (drop entries self.now.journal) passed.now) }
+        ensures small { OnOk result (IsTrue (have_small_links (floods self.now (drop entries self.now.journal) passed.now))) }
+    {
+        let new = &self.table.journal()[entries..];
+        let relayed = relayed_keys(self.alloc, new)?;
+        let own = own_keys(self.alloc, new)?;
+        let floods = Floods {
+            me: &self.me,
+            table: &self.table,
+            moment: self.moment,
+            relayed: relayed.as_slice(),
+            passed,
+            own: own.as_slice(),
+        };
+        floods.send(self.alloc, &self.peers, out)?;
         Ok(())
     }
 
     /// One turn.
+    #[tactic(auto, unfolding(crate::specs::Store::store_step), using(crate::proofs::Growth::journal_grows))]
     pub fn step(&mut self, item: Item, out: &mut Outbox) -> Result<(), NoMemory>
         requires { IsTrue (has_small_link item) }
         ensures state { OnOk result (self.new ≡ (store_step self.old item).0) }
         ensures sent { OnOk result (out.new ≡ out.old ++ (store_step self.old item).1) }
         ensures small { OnOk result (IsTrue (have_small_links (store_step self.old item).1)) }
     {
-        match item {
-            Item::Set { pair } => self.take_set(pair, out)?,
-            Item::PeerUp { link, peer } => self.take_peer(link, peer)?,
-            Item::Net {
-                link: _link,
-                from: _from,
-                msg,
-            } => self.take_message(msg)?,
-            _other => {}
-        }
+        let entries = self.table.journal().len();
+        let passed = self.take(item)?;
+        self.flood(entries, passed.as_slice(), out)?;
         Ok(())
     }
 }

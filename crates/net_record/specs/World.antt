@@ -6,7 +6,7 @@ use Rattle.or_base.specs.declared.item.TurnDone.{TurnDone}
 use Rattle.or_actor.specs.declared.output.Output.{Output}
 use Rattle.or_actor.specs.declared.output.Output.TheVariants.{To}
 use Rattle.kv_store.specs.Store.{new_store, store_step}
-use Rattle.net_link.specs.Link.{link_step}
+use Rattle.net_link.specs.Link.{new_link, link_step}
 use Rattle.net_scenario.specs.Scenario.{Laboratory}
 use Rattle.net_record.specs.declared.role.NodeModule.TheVariants.{Store as StoreRole, Desk as DeskRole}
 use Rattle.net_record.specs.declared.role.Role.{Role}
@@ -34,7 +34,7 @@ abbrev pub new_part : Role → Part
 new_part DriverRole = Driver
 new_part (Node StoreRole node) = Store (new_store node)
 new_part (Node DeskRole node) = Desk
-new_part (LinkRole link a b) = Link (record { link = link; a = a; b = b; is_up = false })
+new_part (LinkRole link a b) = Link (new_link link a b)
 
 abbrev pub new_actor : Role → ActorState
 new_actor role = record { part = new_part role; clock = 0 }

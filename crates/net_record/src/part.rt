@@ -41,7 +41,7 @@ impl Part {
                 ..
             } => Ok(Part::Desk),
             Role::Link { link, a, b } => {
-                Ok(Part::Link(LinkModule::new(*link, a.copied()?, b.copied()?)))
+                Ok(Part::Link(LinkModule::new(alloc, *link, a.copied()?, b.copied()?)))
             }
         }
     }

@@ -1,7 +1,7 @@
 use Rattle.std.proofs.Common.{◌≡◌}
 use Rattle.std.specs.Vec.Iter.{into_iter_items}
 use Rattle.kv_store.specs.Store.{offer_all}
-use Rattle.kv_store.proofs.floods.offer_all.Given as goal
+use Rattle.kv_store.proofs.offers.offer_all.Given as goal
 
 -- offering what is left gives what offering all of it gives
 abbrev pub invariant-loop-pair : goal.invariant-loop-pair
