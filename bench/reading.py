@@ -4,11 +4,12 @@
     python3 bench/reading.py
 
 Prints, for each, the bytes, the seconds (best of three), the greatest memory in use, how often that is the input, and
-the answer. The inputs are scenarios that aren't run, so what is measured is reading alone.
+the answer. The inputs give turns, and so aren't run: what is measured is reading alone.
 """
 from measure import best
 
 MOST = 33_554_432
+A_TURN = '{"do":"turn","lane":0,"at":0}'
 
 
 def declarations():
@@ -23,7 +24,7 @@ def declarations():
 def long_lines(share):
     """Sets of values of 4,096 bytes, up to this share of the greatest size."""
     lines = declarations()
-    size = sum(len(line) + 1 for line in lines)
+    size = sum(len(line) + 1 for line in lines) + len(A_TURN) + 1
     n = 0
     while len(lines) < 9_999:
         line = '{"do":"set","node":"n%d","key":"key-%d","version":%d,"text":"%s"}' % (n % 64, n % 512, n + 1, "w" * 4096)
@@ -32,13 +33,13 @@ def long_lines(share):
         lines.append(line)
         size += len(line) + 1
         n += 1
-    return lines
+    return lines + [A_TURN]
 
 
 def many_sets(count):
     lines = declarations()
     lines += ['{"do":"set","node":"n%d","key":"key-%d","version":%d,"hex":"00"}' % (n % 64, n % 512, n + 1) for n in range(count)]
-    return lines
+    return lines + [A_TURN]
 
 
 def turns(count):

@@ -1,5 +1,5 @@
 -- After the last settle no item waits, and each phase has its settle.
-use Rattle.std.proofs.Common.{◌≡◌, ℕ, zero, suc, ◌+◌, List, [], ◌∷◌, Bool, true, false, cond, Option, Some, None, length, map, refl, ◌∙◌, ap, arith}
+use Rattle.std.proofs.Common.{◌≡◌, ℕ, zero, suc, ◌+◌, List, [], ◌∷◌, Bool, true, false, cond, ◌||◌, not, Option, Some, None, length, map, refl, ◌∙◌, ap, arith}
 use Rattle.std.specs.Prelude.{replicate, slice_get}
 use Rattle.std.specs.List.{list_all}
 use Rattle.std.proofs.lemmas.List.{length_push}
@@ -11,7 +11,9 @@ use Rattle.net_record.specs.Roles.{roles}
 use Rattle.net_record.specs.Wires.{wires}
 use Rattle.net_record.specs.Phases.{phases}
 use Rattle.net_record.specs.World.{WorldState, waiting, turn, turn_of, turn_by, reader_of, is_empty, is_drained, issued, settled, settle_done, start}
-use Rattle.net_record.specs.Rounds.{Marked, turns_on, round_from, round, after_round, rounds_of, phase_of, rounds_from, round_robin}
+use Rattle.net_record.specs.Budget.{is_over}
+use Rattle.net_record.specs.Rounds.{Marked, turns_on, round_from, round, after_round, rounds_of, phase_of, settle_of, rounds_from, round_robin}
+use Rattle.net_record.proofs.RoundRuns.{goes_on, drained-or}
 use Rattle.net_record.specs.Ends.{SettledRoundsEndDrained}
 
 settles-turn_of : (w : WorldState) (lane at reader : ℕ) (s : Stamped) (others : List Stamped) (actor : ActorState) → (turn_of w lane at reader s others actor).settles ≡ w.settles
@@ -29,9 +31,14 @@ settles-turn w lane at =
     let reader = reader_of (slice_get w.wires lane) in
     settles-turn_by w lane at reader (waiting w lane) (slice_get w.actors reader)
 
+settles_within : (over : Bool) (w v : WorldState) → v.settles ≡ w.settles → (cond over w v).settles ≡ w.settles
+settles_within true w v e = refl
+settles_within false w v e = e
+
 settles-turns_on : (w : WorldState) (lane count : ℕ) → (turns_on w lane count).settles ≡ w.settles
 settles-turns_on w lane zero = refl
-settles-turns_on w lane (suc count) = settles-turns_on (turn w lane 0) lane count ∙ settles-turn w lane 0
+settles-turns_on w lane (suc count) =
+    settles_within (is_over w) w (turns_on (turn w lane 0) lane count) (settles-turns_on (turn w lane 0) lane count ∙ settles-turn w lane 0)
 
 settles-round_from : (w : WorldState) (lane : ℕ) (counts : List ℕ) → (round_from w lane counts).settles ≡ w.settles
 settles-round_from w lane [] = refl
@@ -41,26 +48,26 @@ settles-round : (w : WorldState) → (round w).settles ≡ w.settles
 unfolding round
 settles-round w = settles-round_from w 0 (map length w.lanes)
 
-settles_if : (drained : Bool) (m n : Marked) → n.world.settles ≡ m.world.settles → (cond drained m n).world.settles ≡ m.world.settles
+settles_if : (stop : Bool) (m n : Marked) → n.world.settles ≡ m.world.settles → (cond stop m n).world.settles ≡ m.world.settles
 settles_if true m n e = refl
 settles_if false m n e = e
 
 settles-rounds_of : (m : Marked) (count : ℕ) → (rounds_of m count).world.settles ≡ m.world.settles
 settles-rounds_of m zero = refl
 settles-rounds_of m (suc count) =
-    settles_if (is_drained m.world) m (rounds_of (after_round m) count) (settles-rounds_of (after_round m) count ∙ settles-round m.world)
+    settles_if (is_drained m.world || is_over m.world) m (rounds_of (after_round m) count) (settles-rounds_of (after_round m) count ∙ settles-round m.world)
 
 settles-issued : (w : WorldState) (issues : List Output) → (issued w issues).settles ≡ w.settles
 unfolding issued
 settles-issued w issues = refl
 
-settles-settled : (w : WorldState) → length (settled w).settles ≡ length w.settles + 1
+settles-settled : (moment : ℕ) (w : WorldState) → length (settled moment w).settles ≡ length w.settles + 1
 unfolding settled
-settles-settled w = length_push w.settles (settle_done w)
+settles-settled moment w = length_push w.settles (settle_done moment w)
 
-drained-settled : (w : WorldState) → is_drained (settled w) ≡ is_drained w
+drained-settled : (moment : ℕ) (w : WorldState) → is_drained (settled moment w) ≡ is_drained w
 unfolding settled
-drained-settled w = refl
+drained-settled moment w = refl
 
 -- a phase that settles leaves the world drained, with one settle more
 abbrev Ends : List Phase → Type 0
@@ -68,20 +75,22 @@ Ends phases =
     (number : ℕ) (m : Marked) → is_drained m.world ≡ true → (rounds_from number m phases).unsettled ≡ None
     → (is_drained (rounds_from number m phases).last.world ≡ true) × (length (rounds_from number m phases).last.world.settles ≡ length m.world.settles + length phases)
 
-ends_phase : (phases : List Phase) → Ends phases → (number : ℕ) (before : ℕ) (done : Marked) (drained : Bool) → is_drained done.world ≡ drained → length done.world.settles ≡ before
-    → (cond drained (rounds_from (number + 1) (record { world = settled done.world; marks = done.marks }) phases) (record { unsettled = Some number; last = done })).unsettled ≡ None
-    → (is_drained (cond drained (rounds_from (number + 1) (record { world = settled done.world; marks = done.marks }) phases) (record { unsettled = Some number; last = done })).last.world ≡ true)
-    × (length (cond drained (rounds_from (number + 1) (record { world = settled done.world; marks = done.marks }) phases) (record { unsettled = Some number; last = done })).last.world.settles ≡ before + suc (length phases))
-ends_phase phases others number before done true e same settles =
-    let end = others (number + 1) (record { world = settled done.world; marks = done.marks }) (drained-settled done.world ∙ e) settles in
-    (end.0, omega (arith, end.1, settles-settled done.world, same))
-ends_phase phases others number before done false e same settles = cc settles
+ends_phase : (phases : List Phase) → Ends phases → (number : ℕ) (before : ℕ) (phase : Phase) (done : Marked) (unsettled over : Bool) → is_over done.world || not (is_drained done.world) ≡ unsettled
+    → length done.world.settles ≡ before → (goes_on unsettled over number done (settle_of phase done) phases).unsettled ≡ None
+    → (is_drained (goes_on unsettled over number done (settle_of phase done) phases).last.world ≡ true)
+    × (length (goes_on unsettled over number done (settle_of phase done) phases).last.world.settles ≡ before + suc (length phases))
+ends_phase phases others number before phase done false false e same settles =
+    let drained = drained-or (is_over done.world) (is_drained done.world) e in
+    let end = others (number + 1) (settle_of phase done) (drained-settled phase.moment done.world ∙ drained) settles in
+    (end.0, omega (arith, end.1, settles-settled phase.moment done.world, same))
+ends_phase phases others number before phase done false true e same settles = cc settles
+ends_phase phases others number before phase done true over e same settles = cc settles
 
 ends : (phases : List Phase) → Ends phases
 ends [] number m drained settles = (drained, omega arith)
 ends (phase ∷ phases) number m drained settles =
     let done = phase_of m phase in
-    ends_phase phases (ends phases) number (length m.world.settles) done (is_drained done.world) refl
+    ends_phase phases (ends phases) number (length m.world.settles) phase done (is_over done.world || not (is_drained done.world)) (is_over (settle_of phase done).world) refl
     (ap length (settles-rounds_of (record { world = issued m.world phase.issues; marks = m.marks }) phase.rounds ∙ settles-issued m.world phase.issues)) settles
 
 none_wait : (n : ℕ) → list_all is_empty (replicate n []) ≡ true

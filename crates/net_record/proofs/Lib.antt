@@ -1,5 +1,7 @@
 pub mod Wired
 pub mod Delivered
+pub mod Weighing
+pub mod Issues
 pub mod Turns
 pub mod RoundTurns
 pub mod RoundRuns

@@ -1,5 +1,5 @@
 -- A run by rounds is a run under the schedule of its own turns.
-use Rattle.std.proofs.Common.{◌≡◌, ℕ, zero, suc, ◌+◌, List, [], ◌∷◌, ◌++◌, Bool, true, false, cond, Some, None, Ok, length, map, get_or, ◌<◌, refl, sym, ◌∙◌, ap, subst}
+use Rattle.std.proofs.Common.{◌≡◌, ℕ, zero, suc, ◌+◌, List, [], ◌∷◌, ◌++◌, Bool, true, false, cond, ◌||◌, not, Some, None, Ok, length, map, get_or, ◌<◌, refl, sym, ◌∙◌, ap, subst}
 use Rattle.std.proofs.lemmas.List.{append-nil, length-map, length-replicate}
 use Rattle.or_actor.specs.declared.output.Output.{Output}
 use Rattle.net_scenario.specs.declared.schedule.Turn.{Turn}
@@ -10,7 +10,8 @@ use Rattle.net_record.specs.Roles.{roles}
 use Rattle.net_record.specs.Wires.{wires}
 use Rattle.net_record.specs.Phases.{phases}
 use Rattle.net_record.specs.World.{WorldState, world_of, start, new_actor, is_drained, issued, settled, driver_clock, with_clock, greatest_clock}
-use Rattle.net_record.specs.Rounds.{Marked, round, after_round, rounds_of, phase_of, rounds_from, round_robin}
+use Rattle.net_record.specs.Budget.{is_over}
+use Rattle.net_record.specs.Rounds.{Marked, Ended, round, after_round, rounds_of, phase_of, settle_of, rounds_from, round_robin}
 use Rattle.net_record.specs.Run.{begun, advance, run_from, run, schedule_of, RoundsAreARun}
 use Rattle.net_record.specs.Wired.{IsReadBelow, IsWired}
 use Rattle.net_record.proofs.Wired.{readers_of_wires}
@@ -33,49 +34,58 @@ wired_issued w issues wired = record {
   readers = wired.readers;
 }
 
-pub wired_settled : (w : WorldState) → IsWired w → IsWired (settled w)
+pub wired_settled : (moment : ℕ) (w : WorldState) → IsWired w → IsWired (settled moment w)
 unfolding settled
-wired_settled w wired = record {
+wired_settled moment w wired = record {
   as_many = wired.as_many;
   readers = readers_among_as_many (length w.actors) (length (map (with_clock (greatest_clock w.actors + 1)) w.actors)) w.wires (sym (length-map w.actors (with_clock (greatest_clock w.actors + 1)))) wired.readers;
 }
 
+-- no round is wanted any more
+abbrev stops : WorldState → Bool
+stops w = is_drained w || is_over w
+
+waits-or : (drained over : Bool) → drained || over ≡ false → drained ≡ false
+waits-or true over e = cc
+waits-or false over e = refl
+
 -- the turns of at most so many rounds, and then these
 abbrev then_rounds : ℕ → WorldState → List Turn → List Turn
 then_rounds zero w later = later
-then_rounds (suc count) w later = cond (is_drained w) later (then_round 0 (map length w.lanes) (then_rounds count (round w) later))
+then_rounds (suc count) w later = cond (stops w) later (then_round w 0 (map length w.lanes) (then_rounds count (round w) later))
 
-wired_if : (drained : Bool) (m n : Marked) → IsWired m.world → IsWired n.world → IsWired (cond drained m n).world
+wired_if : (stop : Bool) (m n : Marked) → IsWired m.world → IsWired n.world → IsWired (cond stop m n).world
 wired_if true m n g h = g
 wired_if false m n g h = h
 
 wired_rounds_of : (m : Marked) (count : ℕ) → IsWired m.world → IsWired (rounds_of m count).world
 wired_rounds_of m zero wired = wired
 wired_rounds_of m (suc count) wired =
-    wired_if (is_drained m.world) m (rounds_of (after_round m) count) wired (wired_rounds_of (after_round m) count (wired_round m.world wired))
+    wired_if (stops m.world) m (rounds_of (after_round m) count) wired (wired_rounds_of (after_round m) count (wired_round m.world wired))
 
--- one round, or none where no item waits
-one_round : (m : Marked) (count : ℕ) (phase : Phase) (phases : List Phase) (later : List Turn) (drained : Bool) → is_drained m.world ≡ drained → IsWired m.world
+-- one round, or none where none is wanted
+one_round : (m : Marked) (count : ℕ) (phase : Phase) (phases : List Phase) (later : List Turn) (stop : Bool) → stops m.world ≡ stop → IsWired m.world
     → run_from (advance (round m.world) (phase ∷ phases)) (then_rounds count (round m.world) later) ≡ run_from (advance (rounds_of (after_round m) count).world (phase ∷ phases)) later
-    → run_from (advance m.world (phase ∷ phases)) (cond drained later (then_round 0 (map length m.world.lanes) (then_rounds count (round m.world) later)))
-    ≡ run_from (advance (cond drained m (rounds_of (after_round m) count)).world (phase ∷ phases)) later
+    → run_from (advance m.world (phase ∷ phases)) (cond stop later (then_round m.world 0 (map length m.world.lanes) (then_rounds count (round m.world) later)))
+    ≡ run_from (advance (cond stop m (rounds_of (after_round m) count)).world (phase ∷ phases)) later
 one_round m count phase phases later true e wired others = refl
 one_round m count phase phases later false e wired others =
-    ap (λ p. run_from p (then_round 0 (map length m.world.lanes) (then_rounds count (round m.world) later))) (advance-waits m.world phase phases e)
-    ∙ round_runs m.world phase phases (then_rounds count (round m.world) later) wired e ∙ others
+    let waits = waits-or (is_drained m.world) (is_over m.world) e in
+    ap (λ p. run_from p (then_round m.world 0 (map length m.world.lanes) (then_rounds count (round m.world) later))) (advance-waits m.world phase phases waits)
+    ∙ round_runs m.world phase phases (then_rounds count (round m.world) later) wired waits ∙ others
 
 -- the rounds of a phase are turns of a run
 rounds_run : (m : Marked) (count : ℕ) (phase : Phase) (phases : List Phase) (later : List Turn) → IsWired m.world
     → run_from (advance m.world (phase ∷ phases)) (then_rounds count m.world later) ≡ run_from (advance (rounds_of m count).world (phase ∷ phases)) later
 rounds_run m zero phase phases later wired = refl
 rounds_run m (suc count) phase phases later wired =
-    one_round m count phase phases later (is_drained m.world) refl wired
+    one_round m count phase phases later (stops m.world) refl wired
     (rounds_run (after_round m) count phase phases later (wired_round m.world wired))
 
-one_round_scheduled : (m : Marked) (count : ℕ) (later : List Turn) (drained : Bool) → IsWired m.world
+one_round_scheduled : (m : Marked) (count : ℕ) (later : List Turn) (stop : Bool) → IsWired m.world
     → schedule_of (rounds_of (after_round m) count).world.turns ++ later ≡ schedule_of (round m.world).turns ++ then_rounds count (round m.world) later
-    → schedule_of (cond drained m (rounds_of (after_round m) count)).world.turns ++ later
-    ≡ schedule_of m.world.turns ++ cond drained later (then_round 0 (map length m.world.lanes) (then_rounds count (round m.world) later))
+    → schedule_of (cond stop m (rounds_of (after_round m) count)).world.turns ++ later
+    ≡ schedule_of m.world.turns ++ cond stop later (then_round m.world 0 (map length m.world.lanes) (then_rounds count (round m.world) later))
 one_round_scheduled m count later true wired others = refl
 one_round_scheduled m count later false wired others = others ∙ round_schedules m.world (then_rounds count (round m.world) later) wired
 
@@ -83,14 +93,14 @@ rounds_scheduled : (m : Marked) (count : ℕ) (later : List Turn) → IsWired m.
     → schedule_of (rounds_of m count).world.turns ++ later ≡ schedule_of m.world.turns ++ then_rounds count m.world later
 rounds_scheduled m zero later wired = refl
 rounds_scheduled m (suc count) later wired =
-    one_round_scheduled m count later (is_drained m.world) wired (rounds_scheduled (after_round m) count later (wired_round m.world wired))
+    one_round_scheduled m count later (stops m.world) wired (rounds_scheduled (after_round m) count later (wired_round m.world wired))
 
 -- what a phase begins with, and what the next one does
 abbrev with_issues : Marked → Phase → Marked
 with_issues m phase = record { world = issued m.world phase.issues; marks = m.marks }
 
 abbrev next_phase : Marked → Phase → Marked
-next_phase m phase = let done = phase_of m phase in record { world = settled done.world; marks = done.marks }
+next_phase m phase = settle_of phase (phase_of m phase)
 
 -- the turns of phases
 abbrev turns_of_phases : Marked → List Phase → List Turn
@@ -100,58 +110,73 @@ turns_of_phases m (phase ∷ phases) = then_rounds phase.rounds (issued m.world 
 wired_phase : (m : Marked) (phase : Phase) → IsWired m.world → IsWired (phase_of m phase).world
 wired_phase m phase wired = wired_rounds_of (with_issues m phase) phase.rounds (wired_issued m.world phase.issues wired)
 
+-- how rounds go on after those of a phase, where it isn't over before its settle or by it
+abbrev pub goes_on : Bool → Bool → ℕ → Marked → Marked → List Phase → Ended
+goes_on unsettled over number done next phases =
+    cond unsettled (record { unsettled = Some number; last = done })
+    (cond over (record { unsettled = Some number; last = next }) (rounds_from (number + 1) next phases))
+
+pub drained-or : (over drained : Bool) → over || not drained ≡ false → drained ≡ true
+drained-or true drained e = cc
+drained-or false true e = refl
+drained-or false false e = cc
+
 -- a world, and the phases from one on, as a run by rounds and as a run by turns
 abbrev RunsPhases : List Phase → Type 0
 RunsPhases phases =
     (number : ℕ) (m : Marked) → IsWired m.world → (rounds_from number m phases).unsettled ≡ None
     → run_from (advance (begun m.world phases) phases) (turns_of_phases m phases) ≡ Ok (rounds_from number m phases).last.world
 
-settled_phase : (number : ℕ) (m : Marked) (phase : Phase) (phases : List Phase) (later : List Turn) (done : Marked) (drained : Bool) → is_drained done.world ≡ drained
-    → (cond drained (rounds_from (number + 1) (record { world = settled done.world; marks = done.marks }) phases) (record { unsettled = Some number; last = done })).unsettled ≡ None
-    → ((rounds_from (number + 1) (record { world = settled done.world; marks = done.marks }) phases).unsettled ≡ None
-    → run_from (advance (begun (settled done.world) phases) phases) later ≡ Ok (rounds_from (number + 1) (record { world = settled done.world; marks = done.marks }) phases).last.world)
-    → run_from (advance done.world (phase ∷ phases)) later
-    ≡ Ok (cond drained (rounds_from (number + 1) (record { world = settled done.world; marks = done.marks }) phases) (record { unsettled = Some number; last = done })).last.world
-settled_phase number m phase phases later done true e settles others = rw e (others settles)
-settled_phase number m phase phases later done false e settles others = cc settles
+settled_phase : (number : ℕ) (phase : Phase) (phases : List Phase) (later : List Turn) (done : Marked) (unsettled over : Bool) → is_over done.world || not (is_drained done.world) ≡ unsettled
+    → (goes_on unsettled over number done (settle_of phase done) phases).unsettled ≡ None
+    → ((rounds_from (number + 1) (settle_of phase done) phases).unsettled ≡ None
+    → run_from (advance (begun (settle_of phase done).world phases) phases) later ≡ Ok (rounds_from (number + 1) (settle_of phase done) phases).last.world)
+    → run_from (advance done.world (phase ∷ phases)) later ≡ Ok (goes_on unsettled over number done (settle_of phase done) phases).last.world
+settled_phase number phase phases later done false false e settles others =
+    rw (drained-or (is_over done.world) (is_drained done.world) e) (others settles)
+settled_phase number phase phases later done false true e settles others = cc settles
+settled_phase number phase phases later done true over e settles others = cc settles
 
 runs_phases : (phases : List Phase) → RunsPhases phases
 runs_phases [] number m wired settles = refl
 runs_phases (phase ∷ phases) number m wired settles =
     let done = phase_of m phase in
-    rounds_run (with_issues m phase) phase.rounds phase phases (turns_of_phases (next_phase m phase) phases) (wired_issued m.world phase.issues wired)
-    ∙ settled_phase number m phase phases (turns_of_phases (next_phase m phase) phases) done (is_drained done.world) refl settles
-    (λ others. runs_phases phases (number + 1) (next_phase m phase) (wired_settled done.world (wired_phase m phase wired)) others)
+    let next = next_phase m phase in
+    rounds_run (with_issues m phase) phase.rounds phase phases (turns_of_phases next phases) (wired_issued m.world phase.issues wired)
+    ∙ settled_phase number phase phases (turns_of_phases next phases) done (is_over done.world || not (is_drained done.world)) (is_over next.world) refl settles
+    (λ others. runs_phases phases (number + 1) next (wired_settled phase.moment done.world (wired_phase m phase wired)) others)
 
 turns-issued : (w : WorldState) (issues : List Output) → (issued w issues).turns ≡ w.turns
 unfolding issued
 turns-issued w issues = refl
 
-turns-settled : (w : WorldState) → (settled w).turns ≡ w.turns
+turns-settled : (moment : ℕ) (w : WorldState) → (settled moment w).turns ≡ w.turns
 unfolding settled
-turns-settled w = refl
+turns-settled moment w = refl
 
 abbrev SchedulesPhases : List Phase → Type 0
 SchedulesPhases phases =
     (number : ℕ) (m : Marked) → IsWired m.world → (rounds_from number m phases).unsettled ≡ None
     → schedule_of (rounds_from number m phases).last.world.turns ≡ schedule_of m.world.turns ++ turns_of_phases m phases
 
-scheduled_phase : (number : ℕ) (phases : List Phase) (later : List Turn) (done : Marked) (drained : Bool)
-    → (cond drained (rounds_from (number + 1) (record { world = settled done.world; marks = done.marks }) phases) (record { unsettled = Some number; last = done })).unsettled ≡ None
-    → ((rounds_from (number + 1) (record { world = settled done.world; marks = done.marks }) phases).unsettled ≡ None
-    → schedule_of (rounds_from (number + 1) (record { world = settled done.world; marks = done.marks }) phases).last.world.turns ≡ schedule_of (settled done.world).turns ++ later)
-    → schedule_of (cond drained (rounds_from (number + 1) (record { world = settled done.world; marks = done.marks }) phases) (record { unsettled = Some number; last = done })).last.world.turns
-    ≡ schedule_of done.world.turns ++ later
-scheduled_phase number phases later done true settles others = others settles ∙ ap (λ ts. schedule_of ts ++ later) (turns-settled done.world)
-scheduled_phase number phases later done false settles others = cc settles
+scheduled_phase : (number : ℕ) (phase : Phase) (phases : List Phase) (later : List Turn) (done : Marked) (unsettled over : Bool)
+    → (goes_on unsettled over number done (settle_of phase done) phases).unsettled ≡ None
+    → ((rounds_from (number + 1) (settle_of phase done) phases).unsettled ≡ None
+    → schedule_of (rounds_from (number + 1) (settle_of phase done) phases).last.world.turns ≡ schedule_of (settle_of phase done).world.turns ++ later)
+    → schedule_of (goes_on unsettled over number done (settle_of phase done) phases).last.world.turns ≡ schedule_of done.world.turns ++ later
+scheduled_phase number phase phases later done false false settles others =
+    others settles ∙ ap (λ ts. schedule_of ts ++ later) (turns-settled phase.moment done.world)
+scheduled_phase number phase phases later done false true settles others = cc settles
+scheduled_phase number phase phases later done true over settles others = cc settles
 
 schedules_phases : (phases : List Phase) → SchedulesPhases phases
 schedules_phases [] number m wired settles = sym (append-nil (schedule_of m.world.turns))
 schedules_phases (phase ∷ phases) number m wired settles =
     let done = phase_of m phase in
-    let later = turns_of_phases (next_phase m phase) phases in
-    scheduled_phase number phases later done (is_drained done.world) settles
-    (λ others. schedules_phases phases (number + 1) (next_phase m phase) (wired_settled done.world (wired_phase m phase wired)) others)
+    let next = next_phase m phase in
+    let later = turns_of_phases next phases in
+    scheduled_phase number phase phases later done (is_over done.world || not (is_drained done.world)) (is_over next.world) settles
+    (λ others. schedules_phases phases (number + 1) next (wired_settled phase.moment done.world (wired_phase m phase wired)) others)
     ∙ rounds_scheduled (with_issues m phase) phase.rounds later (wired_issued m.world phase.issues wired)
     ∙ ap (λ ts. schedule_of ts ++ then_rounds phase.rounds (issued m.world phase.issues) later) (turns-issued m.world phase.issues)
 

@@ -1,11 +1,13 @@
--- Rounds are turns of a run, one after another: within a round an item always waits, so no phase ends there.
-use Rattle.std.proofs.Common.{◌≡◌, ℕ, zero, suc, ◌+◌, ◌<◌, ◌≤◌, List, [], ◌∷◌, ◌++◌, Bool, true, false, length, map, get_or, drop, refl, sym, ◌∙◌, ap, arith, append_assoc, add-one}
+-- Rounds are turns of a run, one after another: within a round an item always waits, so no phase ends there. Where the budget
+-- is passed, nothing more is done.
+use Rattle.std.proofs.Common.{◌≡◌, ℕ, zero, suc, ◌+◌, ◌<◌, ◌≤◌, List, [], ◌∷◌, ◌++◌, Bool, true, false, cond, length, map, get_or, drop, refl, sym, ◌∙◌, ap, arith, append_assoc, add-one}
 use Rattle.std.specs.List.{list_all}
 use Rattle.std.proofs.lemmas.Bool.{false≢true}
 use Rattle.or_base.specs.declared.item.Stamped.{Stamped}
 use Rattle.net_scenario.specs.declared.schedule.Turn.{Turn}
 use Rattle.net_record.specs.declared.phase.Phase.{Phase}
 use Rattle.net_record.specs.World.{WorldState, waiting, turn, is_empty, is_drained}
+use Rattle.net_record.specs.Budget.{is_over}
 use Rattle.net_record.specs.Rounds.{turns_on, round_from, round}
 use Rattle.net_record.specs.Run.{advance, is_legal, run_from, schedule_of}
 use Rattle.net_record.specs.Wired.{IsWired}
@@ -15,15 +17,15 @@ use Rattle.net_record.proofs.Turns.{wired_turn, turn_keeps, turn_leaves, turn_sc
 abbrev pub turn_on : ℕ → Turn
 turn_on lane = record { lane = lane; at = 0 }
 
--- so many turns of a lane, and then these
-abbrev pub then_turns_on : ℕ → ℕ → List Turn → List Turn
-then_turns_on lane zero later = later
-then_turns_on lane (suc count) later = turn_on lane ∷ then_turns_on lane count later
+-- so many turns of a lane, as far as the budget goes, and then these
+abbrev pub then_turns_on : WorldState → ℕ → ℕ → List Turn → List Turn
+then_turns_on w lane zero later = later
+then_turns_on w lane (suc count) later = cond (is_over w) later (turn_on lane ∷ then_turns_on (turn w lane 0) lane count later)
 
--- so many turns of each lane, from this one on, and then these
-abbrev pub then_round : ℕ → List ℕ → List Turn → List Turn
-then_round lane [] later = later
-then_round lane (count ∷ counts) later = then_turns_on lane count (then_round (lane + 1) counts later)
+-- so many turns of each lane, from this one on, as far as the budget goes, and then these
+abbrev pub then_round : WorldState → ℕ → List ℕ → List Turn → List Turn
+then_round w lane [] later = later
+then_round w lane (count ∷ counts) later = then_turns_on w lane count (then_round (turns_on w lane count) (lane + 1) counts later)
 
 -- some count isn't 0
 abbrev pub some_left : List ℕ → Bool
@@ -65,10 +67,40 @@ round_from-none w lane [] none = refl
 round_from-none w lane (zero ∷ counts) none = round_from-none w (lane + 1) counts none
 round_from-none w lane (suc count ∷ counts) none = cc
 
-then_round-none : (lane : ℕ) (counts : List ℕ) (later : List Turn) → some_left counts ≡ false → then_round lane counts later ≡ later
-then_round-none lane [] later none = refl
-then_round-none lane (zero ∷ counts) later none = then_round-none (lane + 1) counts later none
-then_round-none lane (suc count ∷ counts) later none = cc
+then_round-none : (w : WorldState) (lane : ℕ) (counts : List ℕ) (later : List Turn) → some_left counts ≡ false → then_round w lane counts later ≡ later
+then_round-none w lane [] later none = refl
+then_round-none w lane (zero ∷ counts) later none = then_round-none w (lane + 1) counts later none
+then_round-none w lane (suc count ∷ counts) later none = cc
+
+-- the budget is passed
+turns_on-over : (w : WorldState) (lane count : ℕ) → is_over w ≡ true → turns_on w lane count ≡ w
+turns_on-over w lane zero over = refl
+turns_on-over w lane (suc count) over = rw over refl
+
+round_from-over : (w : WorldState) (lane : ℕ) (counts : List ℕ) → is_over w ≡ true → round_from w lane counts ≡ w
+round_from-over w lane [] over = refl
+round_from-over w lane (count ∷ counts) over =
+    ap (λ v. round_from v (lane + 1) counts) (turns_on-over w lane count over) ∙ round_from-over w (lane + 1) counts over
+
+then_turns_on-over : (w : WorldState) (lane count : ℕ) (later : List Turn) → is_over w ≡ true → then_turns_on w lane count later ≡ later
+then_turns_on-over w lane zero later over = refl
+then_turns_on-over w lane (suc count) later over = rw over refl
+
+then_round-over : (w : WorldState) (lane : ℕ) (counts : List ℕ) (later : List Turn) → is_over w ≡ true → then_round w lane counts later ≡ later
+then_round-over w lane [] later over = refl
+then_round-over w lane (count ∷ counts) later over =
+    then_turns_on-over w lane count (then_round (turns_on w lane count) (lane + 1) counts later) over
+    ∙ ap (λ v. then_round v (lane + 1) counts later) (turns_on-over w lane count over)
+    ∙ then_round-over w (lane + 1) counts later over
+
+-- and where it isn't, the next turn is done
+round_from-step : (w : WorldState) (lane count : ℕ) (counts : List ℕ) → is_over w ≡ false
+    → round_from w lane (suc count ∷ counts) ≡ round_from (turn w lane 0) lane (count ∷ counts)
+round_from-step w lane count counts within = rw within refl
+
+then_round-step : (w : WorldState) (lane count : ℕ) (counts : List ℕ) (later : List Turn) → is_over w ≡ false
+    → then_round w lane (suc count ∷ counts) later ≡ turn_on lane ∷ then_round (turn w lane 0) lane (count ∷ counts) later
+then_round-step w lane count counts later within = rw within refl
 
 -- the front item of a lane on which an item waits
 pub record Front (w : WorldState) (lane : ℕ) : Type 0 where
@@ -98,57 +130,99 @@ Backed-turn w lane count counts wired f h = (
 )
 
 -- what is left of a round, as turns of a run in which the first of these phases isn't settled
+abbrev RunsRoundOf : WorldState → ℕ → List ℕ → Phase → List Phase → List Turn → Type 0
+RunsRoundOf w lane counts phase phases later =
+    run_from (record { world = w; unsettled = phase ∷ phases }) (then_round w lane counts later) ≡ run_from (advance (round_from w lane counts) (phase ∷ phases)) later
+
 abbrev RunsRound : List ℕ → Type 0
 RunsRound counts =
     (w : WorldState) (lane : ℕ) (phase : Phase) (phases : List Phase) (later : List Turn) → IsWired w → Backed w lane counts → some_left counts ≡ true
-    → run_from (record { world = w; unsettled = phase ∷ phases }) (then_round lane counts later) ≡ run_from (advance (round_from w lane counts) (phase ∷ phases)) later
+    → RunsRoundOf w lane counts phase phases later
 
 after_one : (v : WorldState) (lane count : ℕ) (counts : List ℕ) (phase : Phase) (phases : List Phase) (later : List Turn) (left : Bool) → some_left (count ∷ counts) ≡ left → Backed v lane (count ∷ counts)
-    → (some_left (count ∷ counts) ≡ true → run_from (record { world = v; unsettled = phase ∷ phases }) (then_round lane (count ∷ counts) later) ≡ run_from (advance (round_from v lane (count ∷ counts)) (phase ∷ phases)) later)
-    → run_from (advance v (phase ∷ phases)) (then_round lane (count ∷ counts) later) ≡ run_from (advance (round_from v lane (count ∷ counts)) (phase ∷ phases)) later
+    → (some_left (count ∷ counts) ≡ true → RunsRoundOf v lane (count ∷ counts) phase phases later)
+    → run_from (advance v (phase ∷ phases)) (then_round v lane (count ∷ counts) later) ≡ run_from (advance (round_from v lane (count ∷ counts)) (phase ∷ phases)) later
 after_one v lane count counts phase phases later true some backed goes_on =
-    ap (λ p. run_from p (then_round lane (count ∷ counts) later)) (advance-waits v phase phases (not_drained v lane (count ∷ counts) backed some)) ∙ goes_on some
+    ap (λ p. run_from p (then_round v lane (count ∷ counts) later)) (advance-waits v phase phases (not_drained v lane (count ∷ counts) backed some)) ∙ goes_on some
 after_one v lane count counts phase phases later false none backed goes_on =
-    ap (run_from (advance v (phase ∷ phases))) (then_round-none lane (count ∷ counts) later none)
+    ap (run_from (advance v (phase ∷ phases))) (then_round-none v lane (count ∷ counts) later none)
     ∙ ap (λ u. run_from (advance u (phase ∷ phases)) later) (sym (round_from-none v lane (count ∷ counts) none))
+
+-- the budget is passed, and an item waits
+runs-over : (w : WorldState) (lane : ℕ) (counts : List ℕ) (phase : Phase) (phases : List Phase) (later : List Turn) → is_drained w ≡ false → is_over w ≡ true
+    → RunsRoundOf w lane counts phase phases later
+runs-over w lane counts phase phases later waits over =
+    ap (run_from (record { world = w; unsettled = phase ∷ phases })) (then_round-over w lane counts later over)
+    ∙ ap (λ p. run_from p later) (sym (advance-waits w phase phases waits))
+    ∙ ap (λ v. run_from (advance v (phase ∷ phases)) later) (sym (round_from-over w lane counts over))
+
+-- one turn of a lane, or none where the budget is passed
+one_turn : (w : WorldState) (lane count : ℕ) (counts : List ℕ) (phase : Phase) (phases : List Phase) (later : List Turn) (over : Bool) → is_over w ≡ over → IsWired w → Backed w lane (suc count ∷ counts)
+    → (IsWired (turn w lane 0) → Backed (turn w lane 0) lane (count ∷ counts) → some_left (count ∷ counts) ≡ true → RunsRoundOf (turn w lane 0) lane (count ∷ counts) phase phases later)
+    → RunsRoundOf w lane (suc count ∷ counts) phase phases later
+one_turn w lane count counts phase phases later true over wired backed goes_on =
+    runs-over w lane (suc count ∷ counts) phase phases later (not_drained w lane (suc count ∷ counts) backed refl) over
+one_turn w lane count counts phase phases later false within wired backed goes_on =
+    let f = front w lane (omega (arith, backed.0)) in
+    let v = turn w lane 0 in
+    let kept = Backed-turn w lane count counts wired f backed in
+    ap (run_from (record { world = w; unsettled = phase ∷ phases })) (then_round-step w lane count counts later within)
+    ∙ run_from-turn w phase phases lane (then_round v lane (count ∷ counts) later) f
+    ∙ after_one v lane count counts phase phases later (some_left (count ∷ counts)) refl kept (goes_on (wired_turn w lane 0 wired) kept)
+    ∙ ap (λ u. run_from (advance u (phase ∷ phases)) later) (sym (round_from-step w lane count counts within))
 
 one_lane : (counts : List ℕ) → RunsRound counts → (count : ℕ) → RunsRound (count ∷ counts)
 one_lane counts others zero w lane phase phases later wired backed some = others w (lane + 1) phase phases later wired backed.1 some
 one_lane counts others (suc count) w lane phase phases later wired backed some =
-    let f = front w lane (omega (arith, backed.0)) in
-    let v = turn w lane 0 in
-    let kept = Backed-turn w lane count counts wired f backed in
-    run_from-turn w phase phases lane (then_round lane (count ∷ counts) later) f
-    ∙ after_one v lane count counts phase phases later (some_left (count ∷ counts)) refl kept
-    (λ left. one_lane counts others count v lane phase phases later (wired_turn w lane 0 wired) kept left)
+    one_turn w lane count counts phase phases later (is_over w) refl wired backed
+    (λ still kept left. one_lane counts others count (turn w lane 0) lane phase phases later still kept left)
 
 pub runs_round : (counts : List ℕ) → RunsRound counts
 runs_round [] w lane phase phases later wired backed some = absurd (false≢true some)
 runs_round (count ∷ counts) w lane phase phases later wired backed some =
     one_lane counts (runs_round counts) count w lane phase phases later wired backed some
 
+wired_if : (over : Bool) (w v : WorldState) → IsWired w → IsWired v → IsWired (cond over w v)
+wired_if true w v g h = g
+wired_if false w v g h = h
+
 wired_turns_on : (w : WorldState) (lane count : ℕ) → IsWired w → IsWired (turns_on w lane count)
 wired_turns_on w lane zero wired = wired
-wired_turns_on w lane (suc count) wired = wired_turns_on (turn w lane 0) lane count (wired_turn w lane 0 wired)
+wired_turns_on w lane (suc count) wired =
+    wired_if (is_over w) w (turns_on (turn w lane 0) lane count) wired (wired_turns_on (turn w lane 0) lane count (wired_turn w lane 0 wired))
 
 pub wired_round_from : (w : WorldState) (lane : ℕ) (counts : List ℕ) → IsWired w → IsWired (round_from w lane counts)
 wired_round_from w lane [] wired = wired
 wired_round_from w lane (count ∷ counts) wired = wired_round_from (turns_on w lane count) (lane + 1) counts (wired_turns_on w lane count wired)
 
 -- the turns of what is left of a round are in the schedule
+abbrev SchedulesRoundOf : WorldState → ℕ → List ℕ → List Turn → Type 0
+SchedulesRoundOf w lane counts later = schedule_of (round_from w lane counts).turns ++ later ≡ schedule_of w.turns ++ then_round w lane counts later
+
 abbrev SchedulesRound : List ℕ → Type 0
 SchedulesRound counts =
-    (w : WorldState) (lane : ℕ) (later : List Turn) → IsWired w → Backed w lane counts
-    → schedule_of (round_from w lane counts).turns ++ later ≡ schedule_of w.turns ++ then_round lane counts later
+    (w : WorldState) (lane : ℕ) (later : List Turn) → IsWired w → Backed w lane counts → SchedulesRoundOf w lane counts later
+
+schedules_turn : (w : WorldState) (lane count : ℕ) (counts : List ℕ) (later : List Turn) (over : Bool) → is_over w ≡ over → IsWired w → Backed w lane (suc count ∷ counts)
+    → (IsWired (turn w lane 0) → Backed (turn w lane 0) lane (count ∷ counts) → SchedulesRoundOf (turn w lane 0) lane (count ∷ counts) later)
+    → SchedulesRoundOf w lane (suc count ∷ counts) later
+schedules_turn w lane count counts later true over wired backed goes_on =
+    ap (λ v. schedule_of v.turns ++ later) (round_from-over w lane (suc count ∷ counts) over)
+    ∙ ap (λ ts. schedule_of w.turns ++ ts) (sym (then_round-over w lane (suc count ∷ counts) later over))
+schedules_turn w lane count counts later false within wired backed goes_on =
+    let f = front w lane (omega (arith, backed.0)) in
+    let v = turn w lane 0 in
+    ap (λ u. schedule_of u.turns ++ later) (round_from-step w lane count counts within)
+    ∙ goes_on (wired_turn w lane 0 wired) (Backed-turn w lane count counts wired f backed)
+    ∙ ap (λ ts. ts ++ then_round v lane (count ∷ counts) later) (turn_scheduled w lane 0 f.item f.others wired f.is)
+    ∙ append_assoc (schedule_of w.turns) (turn_on lane ∷ []) (then_round v lane (count ∷ counts) later)
+    ∙ ap (λ ts. schedule_of w.turns ++ ts) (sym (then_round-step w lane count counts later within))
 
 schedules_lane : (counts : List ℕ) → SchedulesRound counts → (count : ℕ) → SchedulesRound (count ∷ counts)
 schedules_lane counts others zero w lane later wired backed = others w (lane + 1) later wired backed.1
 schedules_lane counts others (suc count) w lane later wired backed =
-    let f = front w lane (omega (arith, backed.0)) in
-    let v = turn w lane 0 in
-    schedules_lane counts others count v lane later (wired_turn w lane 0 wired) (Backed-turn w lane count counts wired f backed)
-    ∙ ap (λ ts. ts ++ then_round lane (count ∷ counts) later) (turn_scheduled w lane 0 f.item f.others wired f.is)
-    ∙ append_assoc (schedule_of w.turns) (turn_on lane ∷ []) (then_round lane (count ∷ counts) later)
+    schedules_turn w lane count counts later (is_over w) refl wired backed
+    (λ still kept. schedules_lane counts others count (turn w lane 0) lane later still kept)
 
 pub schedules_round : (counts : List ℕ) → SchedulesRound counts
 schedules_round [] w lane later wired backed = refl
@@ -176,12 +250,12 @@ some_waits ((s ∷ others) ∷ lanes) e = refl
 
 -- a round of a world in which an item waits
 pub round_runs : (w : WorldState) (phase : Phase) (phases : List Phase) (later : List Turn) → IsWired w → is_drained w ≡ false
-    → run_from (record { world = w; unsettled = phase ∷ phases }) (then_round 0 (map length w.lanes) later) ≡ run_from (advance (round w) (phase ∷ phases)) later
+    → run_from (record { world = w; unsettled = phase ∷ phases }) (then_round w 0 (map length w.lanes) later) ≡ run_from (advance (round w) (phase ∷ phases)) later
 unfolding round
 round_runs w phase phases later wired waits = runs_round (map length w.lanes) w 0 phase phases later wired (Backed-all w) (some_waits w.lanes waits)
 
 pub round_schedules : (w : WorldState) (later : List Turn) → IsWired w
-    → schedule_of (round w).turns ++ later ≡ schedule_of w.turns ++ then_round 0 (map length w.lanes) later
+    → schedule_of (round w).turns ++ later ≡ schedule_of w.turns ++ then_round w 0 (map length w.lanes) later
 unfolding round
 round_schedules w later wired = schedules_round (map length w.lanes) w 0 later wired (Backed-all w)
 

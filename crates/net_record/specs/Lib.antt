@@ -2,6 +2,8 @@ pub mod Roles
 pub mod Wires
 pub mod Phases
 pub mod World
+pub mod Weight
+pub mod Budget
 pub mod Rounds
 pub mod Run
 pub mod Records

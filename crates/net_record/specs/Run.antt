@@ -21,7 +21,7 @@ begun w (phase ∷ phases) = issued w phase.issues
 abbrev pub advance : WorldState → List Phase → Progress
 advance w [] = record { world = w; unsettled = [] }
 advance w (phase ∷ phases) =
-    if is_drained w then advance (begun (settled w) phases) phases else record { world = w; unsettled = phase ∷ phases }
+    if is_drained w then advance (begun (settled phase.moment w) phases) phases else record { world = w; unsettled = phase ∷ phases }
 
 -- A turn is legal where an item waits on its lane and its length is in range: only a desk finds a length, and no item
 -- for a desk is given out yet, so it is 0.

@@ -150,20 +150,20 @@ mark_of (Store s) =
 abbrev pub marks_of : List ActorState → List NodeMark
 marks_of actors = flat_map (λ actor. mark_of actor.part) actors
 
--- what a settle tells; no command that runs sets a moment or asks, so the moment is 0 and there are no answers
-abbrev pub settle_done : WorldState → SettleDone
-settle_done w = record { turns = length w.turns; moment = 0; nodes = marks_of w.actors; answers = [] }
+-- what a settle at a moment tells; no command that runs asks, so there are no answers
+abbrev pub settle_done : ℕ → WorldState → SettleDone
+settle_done moment w = record { turns = length w.turns; moment = moment; nodes = marks_of w.actors; answers = [] }
 
 abbrev pub with_clock : ℕ → ActorState → ActorState
 with_clock clock actor = record { part = actor.part; clock = clock }
 
--- a phase ends: the settle is recorded, and every clock becomes one more than the greatest
-unfoldable pub settled : WorldState → WorldState
-settled w =
+-- a phase ends at a moment: the settle is recorded, and every clock becomes one more than the greatest
+unfoldable pub settled : ℕ → WorldState → WorldState
+settled moment w =
     record {
       wires = w.wires;
       lanes = w.lanes;
       actors = map (with_clock (greatest_clock w.actors + 1)) w.actors;
       turns = w.turns;
-      settles = w.settles ++ settle_done w ∷ [];
+      settles = w.settles ++ settle_done moment w ∷ [];
     }

@@ -16,6 +16,7 @@ ghost use Rattle.net_record.specs.Run.{RoundsAreARun};
 ghost use Rattle.net_record.specs.Ends.{SettledRoundsEndDrained};
 
 mod actor;
+mod budget;
 mod numbering;
 mod part;
 mod phase;
@@ -23,10 +24,12 @@ mod phasing;
 mod record;
 mod role;
 mod stores;
+mod weight;
 mod wire;
 mod wiring;
 
 pub use actor::{ActorState, Sent};
+pub use budget::{MOST_TURNS, MOST_WEIGHT};
 pub use numbering::{MOST_ACTORS, roles};
 pub use part::Part;
 pub use phase::Phase;
@@ -34,6 +37,10 @@ pub use phasing::phases;
 pub use record::{AnswerDone, NodeMark, Record, SettleDone};
 pub use role::{NodeModule, Role};
 pub use stores::{journals_of, marks_of};
+pub use weight::{
+    HOP_WEIGHT, ITEM_WEIGHT, KEY_WEIGHT, NAME_WEIGHT, PREFIX_WEIGHT, ROUTE_WEIGHT, add_item,
+    add_settle,
+};
 pub use wire::Wire;
 pub use wiring::wires;
 

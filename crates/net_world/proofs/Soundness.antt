@@ -1,7 +1,8 @@
 -- A world starts sound, and its turns, issues and settles keep it so.
-use Rattle.std.proofs.Common.{◌≡◌, ℕ, ◌+◌, ◌<◌, ◌≤◌, ◌^◌, List, [], ◌∷◌, length, map, get_or, set, replicate, refl, sym, ap, ◌∙◌, subst, arith, length-set}
+use Rattle.std.proofs.Common.{◌≡◌, ℕ, ◌+◌, ◌<◌, ◌≤◌, ◌^◌, inl, inr, List, [], ◌∷◌, false, length, map, get_or, set, replicate, refl, sym, ap, ◌∙◌, subst, arith, length-set}
 use Rattle.std.specs.Prelude.{All}
-use Rattle.std.proofs.lemmas.List.{length-map, length-replicate}
+use Rattle.std.proofs.lemmas.Bool.{cases_lt, false≢true}
+use Rattle.std.proofs.lemmas.List.{length-map, length-replicate, get_or_past}
 use Rattle.std.proofs.lemmas.List.Elements.{All-nil, All-set, All-get_or, All-same, All-head, All-tail, All-weaker, All-replicate, All-map}
 use Rattle.or_base.specs.declared.item.Stamped.{Stamped}
 use Rattle.or_base.specs.declared.item.TurnDone.{TurnDone}
@@ -10,7 +11,7 @@ use Rattle.net_record.specs.declared.wire.Wire.{Wire}
 use Rattle.net_record.specs.declared.actor.ActorState.{ActorState}
 use Rattle.net_record.specs.declared.record.SettleDone.{SettleDone}
 use Rattle.net_record.specs.Wired.{IsReadBelow, IsWired}
-use Rattle.net_record.specs.World.{WorldState, new_actor, actor_after, next_stamp, driver_clock, greatest_clock, with_clock}
+use Rattle.net_record.specs.World.{WorldState, is_empty, new_actor, actor_after, next_stamp, driver_clock, greatest_clock, with_clock}
 use Rattle.net_world.specs.Sound.{IsSoundItem, IsSoundLane, IsClockedBelow, StaySound, IsSound, done_in}
 
 -- what is sound up to a bound is so up to a greater one
@@ -22,24 +23,30 @@ lanes_weaker m n lanes h =
 pub clocks_weaker : (m n : ℕ) (actors : List ActorState) → m ≤ n → All (IsClockedBelow m) actors → All (IsClockedBelow n) actors
 clocks_weaker m n actors h = All-weaker (IsClockedBelow m) (IsClockedBelow n) (λ actor below. omega (arith, below)) actors
 
+-- a lane on which an item waits is there
+pub within_waiting : (lanes : List (List Stamped)) (lane : ℕ) → is_empty (get_or lanes lane []) ≡ false → lane < length lanes
+within_waiting lanes lane waits =
+    elim (cases_lt lane (length lanes)) [
+      | inl within ↦ within
+      | inr past ↦ absurd (false≢true (sym waits ∙ ap is_empty (get_or_past lanes lane [] past)))
+    ]
+
 -- the items of one lane
-pub lane_sound : (most lane : ℕ) (lanes : List (List Stamped)) (front : List Stamped) → lane < length lanes → front ≡ get_or lanes lane front
-    → All (IsSoundLane most) lanes → All (IsSoundItem most) front
-lane_sound most lane lanes front within is all =
-    All-same (IsSoundItem most) front (get_or lanes lane front) is (All-get_or (IsSoundLane most) lanes lane front within all)
+lane_sound : (most lane : ℕ) (lanes : List (List Stamped)) (s : Stamped) (others : List Stamped) → get_or lanes lane [] ≡ s ∷ others → All (IsSoundLane most) lanes
+    → All (IsSoundItem most) (s ∷ others)
+lane_sound most lane lanes s others e all =
+    All-same (IsSoundItem most) (s ∷ others) (get_or lanes lane []) (sym e)
+    (All-get_or (IsSoundLane most) lanes lane [] (within_waiting lanes lane (ap is_empty e)) all)
 
 -- the item that is taken from a lane
-pub taken_sound : (most lane : ℕ) (lanes : List (List Stamped)) (front : List Stamped) (s : Stamped) (others : List Stamped) → lane < length lanes
-    → front ≡ get_or lanes lane front → front ≡ s ∷ others → All (IsSoundLane most) lanes → IsSoundItem most s
-taken_sound most lane lanes front s others within is e all =
-    All-head (IsSoundItem most) s others (All-same (IsSoundItem most) (s ∷ others) front (sym e) (lane_sound most lane lanes front within is all))
+pub taken_sound : (most lane : ℕ) (lanes : List (List Stamped)) (s : Stamped) (others : List Stamped) → get_or lanes lane [] ≡ s ∷ others → All (IsSoundLane most) lanes → IsSoundItem most s
+taken_sound most lane lanes s others e all = All-head (IsSoundItem most) s others (lane_sound most lane lanes s others e all)
 
 -- the lanes without that item
-pub left_sound : (most lane : ℕ) (lanes : List (List Stamped)) (front : List Stamped) (s : Stamped) (others : List Stamped) → lane < length lanes
-    → front ≡ get_or lanes lane front → front ≡ s ∷ others → All (IsSoundLane most) lanes → All (IsSoundLane most) (set lanes lane others)
-left_sound most lane lanes front s others within is e all =
-    All-set (IsSoundLane most) lanes lane others
-    (All-tail (IsSoundItem most) s others (All-same (IsSoundItem most) (s ∷ others) front (sym e) (lane_sound most lane lanes front within is all))) all
+pub left_sound : (most lane : ℕ) (lanes : List (List Stamped)) (s : Stamped) (others : List Stamped) → get_or lanes lane [] ≡ s ∷ others → All (IsSoundLane most) lanes
+    → All (IsSoundLane most) (set lanes lane others)
+left_sound most lane lanes s others e all =
+    All-set (IsSoundLane most) lanes lane others (All-tail (IsSoundItem most) s others (lane_sound most lane lanes s others e all)) all
 
 -- the same lanes and readers, with other items, actors and turns
 wired_with : (w : WorldState) (lanes : List (List Stamped)) (actors : List ActorState) (turns : List TurnDone) (settles : List SettleDone) → IsWired w → length lanes ≡ length w.lanes
@@ -59,23 +66,34 @@ sound_with w most lanes actors turns settles sound e h n items clocks = record {
   clocks = subst (λ m. All (IsClockedBelow m) actors) n clocks;
 }
 
+-- the clock of an actor
+pub clock_below : (w : WorldState) (reader : ℕ) (actor : ActorState) → IsSound w → reader < length w.actors → actor ≡ get_or w.actors reader actor → actor.clock ≤ done_in w
+clock_below w reader actor sound there at =
+    subst (λ (a : ActorState). a.clock ≤ done_in w) (sym at) (All-get_or (IsClockedBelow (done_in w)) w.actors reader actor there sound.clocks)
+
+-- the reader of a lane
+pub reader_there : (w : WorldState) (lane reader : ℕ) (d : Wire) → IsSound w → lane < length w.lanes → reader ≡ (get_or w.wires lane d).reader → reader < length w.actors
+reader_there w lane reader d sound within is =
+    subst (λ n. n < length w.actors) (sym is)
+    (All-get_or (IsReadBelow (length w.actors)) w.wires lane d (omega (arith, within, sound.wired.as_many)) sound.wired.readers)
+
 -- a world without an item that was taken
-pub sound_left : (w : WorldState) (lane : ℕ) (front : List Stamped) (s : Stamped) (others : List Stamped) (turns : List TurnDone) → IsSound w → lane < length w.lanes
-    → front ≡ get_or w.lanes lane front → front ≡ s ∷ others → length turns ≡ length w.turns
-    → IsSound (record { wires = w.wires; lanes = set w.lanes lane others; actors = w.actors; turns = turns; settles = w.settles })
-sound_left w lane front s others turns sound within is e n =
-    sound_with w (done_in w) (set w.lanes lane others) w.actors turns w.settles sound (length-set w.lanes lane others) refl (omega arith)
-    (left_sound (done_in w) lane w.lanes front s others within is e sound.items) sound.clocks
+pub sound_left : (w : WorldState) (lane : ℕ) (s : Stamped) (others : List Stamped) (lanes : List (List Stamped)) (turns : List TurnDone) → IsSound w
+    → get_or w.lanes lane [] ≡ s ∷ others → lanes ≡ set w.lanes lane others → length turns ≡ length w.turns
+    → IsSound (record { wires = w.wires; lanes = lanes; actors = w.actors; turns = turns; settles = w.settles })
+sound_left w lane s others lanes turns sound e left n =
+    sound_with w (done_in w) lanes w.actors turns w.settles sound (ap length left ∙ length-set w.lanes lane others) refl (omega arith)
+    (All-same (IsSoundLane (done_in w)) lanes (set w.lanes lane others) left (left_sound (done_in w) lane w.lanes s others e sound.items)) sound.clocks
 
 -- the same, with another actor of the same clock
-pub sound_kept : (w : WorldState) (lane reader : ℕ) (front : List Stamped) (s : Stamped) (others : List Stamped) (turns : List TurnDone) (before after : ActorState) → IsSound w
-    → lane < length w.lanes → front ≡ get_or w.lanes lane front → front ≡ s ∷ others → length turns ≡ length w.turns
+pub sound_kept : (w : WorldState) (lane reader : ℕ) (s : Stamped) (others : List Stamped) (lanes : List (List Stamped)) (turns : List TurnDone) (before after : ActorState) → IsSound w
+    → get_or w.lanes lane [] ≡ s ∷ others → lanes ≡ set w.lanes lane others → length turns ≡ length w.turns
     → reader < length w.actors → before ≡ get_or w.actors reader before → after.clock ≡ before.clock
-    → IsSound (record { wires = w.wires; lanes = set w.lanes lane others; actors = set w.actors reader after; turns = turns; settles = w.settles })
-sound_kept w lane reader front s others turns before after sound within is e n there at same =
-    let below : before.clock ≤ done_in w = subst (λ (a : ActorState). a.clock ≤ done_in w) (sym at) (All-get_or (IsClockedBelow (done_in w)) w.actors reader before there sound.clocks) in
-    sound_with w (done_in w) (set w.lanes lane others) (set w.actors reader after) turns w.settles sound (length-set w.lanes lane others) (length-set w.actors reader after) (omega arith)
-    (left_sound (done_in w) lane w.lanes front s others within is e sound.items)
+    → IsSound (record { wires = w.wires; lanes = lanes; actors = set w.actors reader after; turns = turns; settles = w.settles })
+sound_kept w lane reader s others lanes turns before after sound e left n there at same =
+    let below : before.clock ≤ done_in w = clock_below w reader before sound there at in
+    sound_with w (done_in w) lanes (set w.actors reader after) turns w.settles sound (ap length left ∙ length-set w.lanes lane others) (length-set w.actors reader after) (omega arith)
+    (All-same (IsSoundLane (done_in w)) lanes (set w.lanes lane others) left (left_sound (done_in w) lane w.lanes s others e sound.items))
     (All-set (IsClockedBelow (done_in w)) w.actors reader after (omega (arith, below, same)) sound.clocks)
 
 clock_after : (before : ActorState) (s : Stamped) → (actor_after before s).clock ≡ next_stamp before s
@@ -83,19 +101,21 @@ unfolding actor_after
 clock_after before s = refl
 
 -- the world after a turn
-pub sound_turned : (w : WorldState) (lane reader : ℕ) (front : List Stamped) (s : Stamped) (others : List Stamped) (turns : List TurnDone) (before after : ActorState) (stamp : ℕ)
-    (lanes : List (List Stamped)) → IsSound w
-    → lane < length w.lanes → front ≡ get_or w.lanes lane front → front ≡ s ∷ others → length turns ≡ length w.turns + 1
+pub sound_turned : (w : WorldState) (lane reader : ℕ) (s : Stamped) (others : List Stamped) (left lanes : List (List Stamped)) (turns : List TurnDone) (before after : ActorState) (stamp : ℕ)
+    → IsSound w → get_or w.lanes lane [] ≡ s ∷ others → left ≡ set w.lanes lane others → length turns ≡ length w.turns + 1
     → reader < length w.actors → before ≡ get_or w.actors reader before → after ≡ actor_after before s → stamp ≡ next_stamp before s
-    → length lanes ≡ length (set w.lanes lane others) → StaySound stamp (set w.lanes lane others) lanes
+    → length lanes ≡ length left → StaySound stamp left lanes
     → IsSound (record { wires = w.wires; lanes = lanes; actors = set w.actors reader after; turns = turns; settles = w.settles })
-sound_turned w lane reader front s others turns before after stamp lanes sound within is e n there at became stamped len stay =
-    let below : before.clock ≤ done_in w = subst (λ (a : ActorState). a.clock ≤ done_in w) (sym at) (All-get_or (IsClockedBelow (done_in w)) w.actors reader before there sound.clocks) in
-    let taken : IsSoundItem (done_in w) s = taken_sound (done_in w) lane w.lanes front s others within is e sound.items in
+sound_turned w lane reader s others left lanes turns before after stamp sound e is n there at became stamped len stay =
+    let below : before.clock ≤ done_in w = clock_below w reader before sound there at in
+    let taken : IsSoundItem (done_in w) s = taken_sound (done_in w) lane w.lanes s others e sound.items in
     let most : stamp ≤ done_in w + 1 = omega (arith, taken.0, below, stamped) in
     let clock : after.clock ≤ done_in w + 1 = omega (arith, ap (λ (a : ActorState). a.clock) became, clock_after before s, most, stamped) in
-    sound_with w (done_in w + 1) lanes (set w.actors reader after) turns w.settles sound (len ∙ length-set w.lanes lane others) (length-set w.actors reader after) (omega arith)
-    (stay.sound (done_in w + 1) most (lanes_weaker (done_in w) (done_in w + 1) (set w.lanes lane others) (omega arith) (left_sound (done_in w) lane w.lanes front s others within is e sound.items)))
+    let kept : All (IsSoundLane (done_in w)) left =
+    All-same (IsSoundLane (done_in w)) left (set w.lanes lane others) is (left_sound (done_in w) lane w.lanes s others e sound.items)
+    in
+    sound_with w (done_in w + 1) lanes (set w.actors reader after) turns w.settles sound (len ∙ ap length is ∙ length-set w.lanes lane others) (length-set w.actors reader after) (omega arith)
+    (stay.sound (done_in w + 1) most (lanes_weaker (done_in w) (done_in w + 1) left (omega arith) kept))
     (All-set (IsClockedBelow (done_in w + 1)) w.actors reader after clock (clocks_weaker (done_in w) (done_in w + 1) w.actors (omega arith) sound.clocks))
 
 new_clocks : (all : List Role) → All (IsClockedBelow 0) (map new_actor all)

@@ -1,7 +1,6 @@
 -- A turn, an issue and a settle, from what their parts made.
-use Rattle.std.proofs.Common.{◌≡◌, ℕ, ◌+◌, ◌<◌, ◌≤◌, List, [], ◌∷◌, ◌++◌, Some, true, length, map, get_or, set, slice_get, refl, sym, ◌∙◌, ap}
-use Rattle.std.proofs.lemmas.List.{get_or_past}
-use Rattle.std.proofs.lemmas.Option.{slice_get-get_or, get_or_from_slice_get}
+use Rattle.std.proofs.Common.{◌≡◌, ℕ, ◌+◌, ◌<◌, List, [], ◌∷◌, ◌++◌, Some, true, length, map, get_or, set, slice_get, refl, sym, ◌∙◌, ap}
+use Rattle.std.proofs.lemmas.Option.{slice_get-get_or}
 use Rattle.or_base.specs.declared.item.Item.{Item}
 use Rattle.or_base.specs.declared.item.Stamped.{Stamped}
 use Rattle.or_base.specs.declared.item.TurnDone.{TurnDone}
@@ -16,18 +15,13 @@ turn_none : (w : WorldState) (lane at : ℕ) → waiting w lane ≡ [] → turn 
 unfolding turn
 turn_none w lane at e = rw e refl
 
--- there is no such lane
-pub turn_past : (w : WorldState) (lane at : ℕ) → length w.lanes ≤ lane → turn w lane at ≡ w
-turn_past w lane at past = turn_none w lane at (get_or_past w.lanes lane [] past)
-
 nothing_waits : (items : List Stamped) → is_empty items ≡ true → items ≡ []
 nothing_waits [] h = refl
 nothing_waits (s ∷ others) h = cc
 
 -- no item waits on the lane
-pub turn_empty : (w : WorldState) (lane at : ℕ) (front : List Stamped) → lane < length w.lanes → front ≡ get_or w.lanes lane front → is_empty front ≡ true → turn w lane at ≡ w
-turn_empty w lane at front within is h =
-    turn_none w lane at (get_or_from_slice_get w.lanes lane front [] (slice_get-get_or w.lanes lane front within ∙ ap Some (sym is)) ∙ nothing_waits front h)
+pub turn_empty : (w : WorldState) (lane at : ℕ) → is_empty (waiting w lane) ≡ true → turn w lane at ≡ w
+turn_empty w lane at h = turn_none w lane at (nothing_waits (waiting w lane) h)
 
 turn_some : (w : WorldState) (lane at : ℕ) (wire : Wire) (s : Stamped) (others : List Stamped) (actor : ActorState)
     → slice_get w.wires lane ≡ Some wire → waiting w lane ≡ s ∷ others → slice_get w.actors wire.reader ≡ Some actor
@@ -36,21 +30,21 @@ unfolding turn
 turn_some w lane at wire s others actor e h k = rw (e, h, k) refl
 
 -- an item was taken
-pub turn_made : (w : WorldState) (lane at reader : ℕ) (d : Wire) (front : List Stamped) (s : Stamped) (others : List Stamped) (before after : ActorState) (stamp : ℕ) (outputs : List Output)
-    (item : Item) (lanes : List (List Stamped)) (turns : List TurnDone)
-    → lane < length w.wires → reader ≡ (get_or w.wires lane d).reader → lane < length w.lanes → front ≡ get_or w.lanes lane front → front ≡ s ∷ others
+pub turn_made : (w : WorldState) (lane at reader : ℕ) (d : Wire) (s : Stamped) (others : List Stamped) (before after : ActorState) (stamp : ℕ) (outputs : List Output)
+    (item : Item) (left lanes : List (List Stamped)) (turns : List TurnDone)
+    → lane < length w.wires → reader ≡ (get_or w.wires lane d).reader → waiting w lane ≡ s ∷ others
     → reader < length w.actors → before ≡ get_or w.actors reader before
     → after ≡ actor_after before s → stamp ≡ next_stamp before s → outputs ≡ outputs_of before s.item → item ≡ s.item
-    → lanes ≡ delivered w.wires reader stamp (set w.lanes lane others) outputs
+    → left ≡ set w.lanes lane others → lanes ≡ delivered w.wires reader stamp left outputs
     → turns ≡ w.turns ++ record { lane = lane; at = at; stamp = stamp; item = item } ∷ []
     → record { wires = w.wires; lanes = lanes; actors = set w.actors reader after; turns = turns; settles = w.settles } ≡ turn w lane at
 unfolding turn_of
-turn_made w lane at reader d front s others before after stamp outputs item lanes turns there reads within is e acts at_reader became stamped sent copied put done =
+turn_made w lane at reader d s others before after stamp outputs item left lanes turns there reads e acts at_reader became stamped sent copied taken put done =
     sym
     (turn_some w lane at (get_or w.wires lane d) s others before (slice_get-get_or w.wires lane d there)
-    (get_or_from_slice_get w.lanes lane front [] (slice_get-get_or w.lanes lane front within ∙ ap Some (sym is)) ∙ e)
+    e
     (rw (← reads) (slice_get-get_or w.actors reader before acts ∙ ap Some (sym at_reader)))
-    ∙ rw (← reads, done, put, copied, sent, became, stamped) refl)
+    ∙ rw (← reads, done, put, taken, copied, sent, became, stamped) refl)
 
 -- items were issued
 pub issue_made : (w : WorldState) (stamp : ℕ) (issues : List Output) (lanes : List (List Stamped)) → stamp ≡ driver_clock w.actors → lanes ≡ delivered w.wires 0 stamp w.lanes issues
@@ -59,9 +53,9 @@ unfolding issued
 issue_made w stamp issues lanes is put = rw (put, is) refl
 
 -- a settle was done
-pub settle_made : (w : WorldState) (clock : ℕ) (nodes : List NodeMark) (actors : List ActorState) (settles : List SettleDone)
+pub settle_made : (w : WorldState) (moment clock : ℕ) (nodes : List NodeMark) (actors : List ActorState) (settles : List SettleDone)
     → clock ≡ greatest_clock w.actors + 1 → nodes ≡ marks_of w.actors → actors ≡ map (with_clock clock) w.actors
-    → settles ≡ w.settles ++ record { turns = length w.turns; moment = 0; nodes = nodes; answers = [] } ∷ []
-    → record { wires = w.wires; lanes = w.lanes; actors = actors; turns = w.turns; settles = settles } ≡ settled w
+    → settles ≡ w.settles ++ record { turns = length w.turns; moment = moment; nodes = nodes; answers = [] } ∷ []
+    → record { wires = w.wires; lanes = w.lanes; actors = actors; turns = w.turns; settles = settles } ≡ settled moment w
 unfolding settled
-settle_made w clock nodes actors settles is marked set_to done = rw (done, set_to, marked, is) refl
+settle_made w moment clock nodes actors settles is marked set_to done = rw (done, set_to, marked, is) refl

@@ -1,2 +1,5 @@
+pub mod Ports
+pub mod Busy
+pub mod Settling
 pub mod Sound
 pub mod Fault

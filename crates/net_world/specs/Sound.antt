@@ -1,9 +1,10 @@
-use Rattle.std.specs.Prelude.{ℕ, ◌+◌, ◌<◌, ◌≤◌, ◌^◌, length, List, All, IsTrue}
+use Rattle.std.specs.Prelude.{◌≡◌, ℕ, ◌+◌, ◌<◌, ◌≤◌, ◌^◌, length, List, All, IsTrue}
 use Rattle.or_base.specs.declared.item.Stamped.{Stamped}
 use Rattle.or_actor.specs.Fits.{has_small_link}
 use Rattle.net_record.specs.declared.actor.ActorState.{ActorState}
 use Rattle.net_record.specs.World.{WorldState}
 use Rattle.net_record.specs.Wired.{IsWired}
+use Rattle.net_record.specs.Weight.{capped, weight_of}
 
 -- the stamp is at most n, and a link that the item names has a number below 2^31
 abbrev pub IsSoundItem : ℕ → Stamped → Type 0
@@ -30,3 +31,8 @@ pub record IsSound (w : WorldState) : Type 0 where
   pub few : length w.wires < 2 ^ 32
   pub items : All (IsSoundLane (done_in w)) w.lanes
   pub clocks : All (IsClockedBelow (done_in w)) w.actors
+
+-- what a world keeps: it is sound, and it has the weight of its turns and settles
+pub record IsKept (w : WorldState) (weight : ℕ) : Type 0 where
+  pub sound : IsSound w
+  pub weighed : weight ≡ capped (weight_of w.turns w.settles)

@@ -1,4 +1,4 @@
-ghost use Rattle.std.specs.Prelude.{◌≡◌, [], ◌∷◌, ◌++◌, ◌<◌, map, length, IfOk, OnOk, OnErr};
+ghost use Rattle.std.specs.Prelude.{◌≡◌, [], ◌∷◌, ◌++◌, ◌<◌, length, OnOk, OnErr};
 
 use or_base::{NoMemory, Stamped};
 use std::alloc::Global;
@@ -62,15 +62,4 @@ impl Lane {
     {
         self.items.pop_front().unwrap()
     }
-}
-
-/// How many items wait on each lane.
-pub fn counts_of(alloc: Global, lanes: &[Lane]) -> Result<Vec<usize>, NoMemory>
-    ensures { IfOk result (λ counts. counts.items ≡ map length lanes.now) }
-{
-    let mut counts = Vec::new(alloc);
-    for lane in lanes {
-        counts.push(lane.len())?;
-    }
-    Ok(counts)
 }

@@ -1,13 +1,17 @@
 ghost use Rattle.std.specs.Prelude.{◌≡◌, ◌+◌, ◌<◌, ◌^◌, [], All, length, IfOk, IfErr, OnOk};
-ghost use Rattle.net_record.specs.World.{start, is_drained, settled};
+ghost use Rattle.net_record.specs.World.{start, is_drained};
+ghost use Rattle.net_record.specs.Budget.{is_over};
 ghost use Rattle.net_record.specs.Rounds.{turns_on, round, after_round, rounds_of, phase_of, rounds_from, round_robin};
 ghost use Rattle.net_record.specs.Records.{record_of, IsSettled, IsRecordOf};
 ghost use Rattle.net_record.specs.Run.{run, schedule_of};
 ghost use Rattle.net_record.specs.Ends.{EndsDrained};
 ghost use Rattle.net_record.specs.Small.{IssuesSmallLinks};
+ghost use Rattle.net_world.specs.Busy.{turns_on_each};
+ghost use Rattle.net_world.specs.Settling.{after_phase, settles_phase};
 ghost use Rattle.net_world.specs.Fault.{IsFaultOf};
 
 use crate::fault::RunFault;
+use crate::lanes::Busy;
 use crate::world::World;
 use net_record::{Phase, Record, phases, rounds_are_a_run, settled_rounds_end_drained};
 use net_scenario::Scenario;
@@ -15,27 +19,37 @@ use or_base::NoMemory;
 use std::alloc::Global;
 use std::marker::Model;
 
-/// So many turns of a lane.
-#[tactic(auto, using(crate::proofs::Rounding::turns_step))]
+/// So many turns of a lane, or fewer where the budget is passed.
+#[tactic(auto, using(crate::proofs::Rounding::turns_steps))]
 fn turns_on(world: &mut World, lane: usize, count: usize) -> Result<(), NoMemory>
     ensures { OnOk result (world.new ≡ turns_on world.old lane count) }
 {
     for _turn in 0..count {
+        if world.is_over() {
+            return Ok(());
+        }
         world.turn(lane, 0)?;
     }
     Ok(())
 }
 
+/// Of each of these lanes, in order, as many turns as items waited on it.
+fn turns_on_each(world: &mut World, lanes: Vec<Busy>) -> Result<(), NoMemory>
+    ensures { OnOk result (world.new ≡ turns_on_each world.old lanes.items) }
+{
+    for busy in lanes {
+        turns_on(world, busy.lane as usize, busy.count)?;
+    }
+    Ok(())
+}
+
 /// A round: of each lane, in order, as many turns as items wait on it as the round begins.
-#[tactic(auto, unfolding(net_record::specs::Rounds::round))]
+#[tactic(auto, using(crate::proofs::Busied::rounded))]
 fn round(world: &mut World) -> Result<(), NoMemory>
     ensures { OnOk result (world.new ≡ round world.old) }
 {
-    let counts = world.waiting_counts()?;
-    for lane in 0..counts.len() {
-        turns_on(world, lane, counts[lane])?;
-    }
-    Ok(())
+    let lanes = world.busy_lanes()?;
+    turns_on_each(world, lanes)
 }
 
 /// A world, and how many turns were done as each round ended.
@@ -71,6 +85,13 @@ impl MarkedWorld {
         self.world.is_drained()
     }
 
+    /// The budget is passed.
+    fn is_over(&self) -> bool
+        ensures { result ≡ is_over self.now.world }
+    {
+        self.world.is_over()
+    }
+
     /// One round.
     fn run_round(&mut self) -> Result<(), NoMemory>
         ensures { OnOk result (self.new ≡ after_round self.old) }
@@ -80,13 +101,13 @@ impl MarkedWorld {
         Ok(())
     }
 
-    /// Rounds until no item waits, at most so many.
-    #[tactic(auto, using(crate::proofs::Rounding::rounds_step))]
+    /// Rounds until no item waits or the budget is passed, at most so many.
+    #[tactic(auto, using(crate::proofs::Rounding::rounds_steps))]
     fn run_rounds(&mut self, count: u64) -> Result<(), NoMemory>
         ensures { OnOk result (self.new ≡ rounds_of self.old count) }
     {
         for _round in 0..count {
-            if self.is_drained() {
+            if self.is_drained() || self.is_over() {
                 return Ok(());
             }
             self.run_round()?;
@@ -94,22 +115,25 @@ impl MarkedWorld {
         Ok(())
     }
 
-    /// The rounds of a phase.
-    fn run_phase(&mut self, phase: Phase) -> Result<(), NoMemory>
+    /// The rounds of a phase, and its settle where it comes to one. The answer is whether it did, with the budget not
+    /// passed after it either.
+    fn run_phase(&mut self, phase: Phase) -> Result<bool, NoMemory>
         requires { IssuesSmallLinks phase }
-        ensures { OnOk result (self.new ≡ phase_of self.old phase) }
+        ensures after { OnOk result (self.new ≡ after_phase phase (phase_of self.old phase)) }
+        ensures settled { IfOk result (λ settled. settled ≡ settles_phase phase (phase_of self.old phase)) }
     {
-        let Phase { issues, rounds } = phase;
+        let Phase {
+            issues,
+            rounds,
+            moment,
+        } = phase;
         self.world.issue(issues.into_vec())?;
-        self.run_rounds(rounds)
-    }
-
-    /// A phase ends.
-    fn settle(&mut self) -> Result<(), NoMemory>
-        ensures { OnOk result (self.new ≡ record { world = settled self.old.world; marks = self.old.marks }) }
-    {
-        self.world.settle()?;
-        Ok(())
+        self.run_rounds(rounds)?;
+        if self.is_over() || !self.is_drained() {
+            return Ok(false);
+        }
+        self.world.settle(moment)?;
+        Ok(!self.is_over())
     }
 
     /// The rounds of phases, each of which is settled. Where one isn't, the answer is its number, from 1.
@@ -120,11 +144,9 @@ impl MarkedWorld {
     {
         let mut number = 1;
         for phase in phases {
-            self.run_phase(phase)?;
-            if !self.is_drained() {
+            if !self.run_phase(phase)? {
                 return Ok(Some(number));
             }
-            self.settle()?;
             number += 1;
         }
         Ok(None)

@@ -1,57 +1,68 @@
-ghost use Rattle.std.specs.Prelude.{◌≡◌, IsTrue, map, length, IfOk, OnOk};
+ghost use Rattle.std.specs.Prelude.{◌≡◌, IsTrue, length, IfOk, OnOk};
 ghost use Rattle.or_actor.specs.Fits.{have_small_links};
 ghost use Rattle.net_record.specs.Records.{record_of};
 
 use crate::clocks::{driver_clock, greatest_clock, set_clocks};
 use crate::delivery::deliver;
-use crate::lane::{Lane, counts_of};
-use crate::start::{empty_lanes, new_actors};
-use net_record::{ActorState, Record, Sent, SettleDone, Wire, journals_of, marks_of, roles, wires};
+use crate::lanes::{Busy, Lanes};
+use crate::ports::Wiring;
+use crate::start::new_actors;
+use net_record::{
+    ActorState, MOST_TURNS, MOST_WEIGHT, Record, Sent, SettleDone, add_item, add_settle,
+    journals_of, marks_of, roles, wires,
+};
 use net_scenario::Scenario;
 use or_actor::Output;
 use or_base::{NoMemory, Seq, TurnDone};
 use std::alloc::Global;
 use std::marker::Model;
 
-/// Actors, the lanes among them, and what they have done. Where memory runs out in a call, the world is spent.
+/// Actors, the lanes among them, and what they have done with its weight. Where memory runs out in a call, the world is
+/// spent.
 #[derive(Drop)]
 pub struct World {
-    wires: Vec<Wire>,
-    lanes: Vec<Lane>,
+    wiring: Wiring,
+    lanes: Lanes,
     actors: Vec<ActorState>,
     turns: Vec<TurnDone>,
     settles: Vec<SettleDone>,
+    weight: u64,
     alloc: Global,
 }
 
 impl Model for World {
     ghost use Rattle.net_record.specs.World.{WorldState};
-    ghost use Rattle.net_world.specs.Sound.{IsSound};
+    ghost use Rattle.net_world.specs.Sound.{IsKept};
 
     ghost Value = { WorldState };
 
-    ghost view = { λ w. record { wires = w.wires.items; lanes = w.lanes.items; actors = w.actors.items; turns = w.turns.items; settles = w.settles.items } };
+    ghost view = { λ w. record { wires = w.wiring; lanes = w.lanes; actors = w.actors.items; turns = w.turns.items; settles = w.settles.items } };
 
-    ghost invariant = { λ w. IsSound (record { wires = w.wires.items; lanes = w.lanes.items; actors = w.actors.items; turns = w.turns.items; settles = w.settles.items }) };
+    ghost invariant = { λ w. IsKept (record { wires = w.wiring; lanes = w.lanes; actors = w.actors.items; turns = w.turns.items; settles = w.settles.items }) w.weight };
 }
 
 impl World {
     ghost use Rattle.net_record.specs.World.{start, is_drained, turn, issued, settled};
+    ghost use Rattle.net_record.specs.Budget.{is_over};
+    ghost use Rattle.net_world.specs.Busy.{busy_lanes};
 
     /// The world of a scenario before anything is done.
     pub fn new(alloc: Global, scenario: &Scenario) -> Result<World, NoMemory>
         ensures { IfOk result (λ w. w ≡ start scenario.now) }
     {
         let all = roles(alloc, scenario)?;
-        let wires = wires(alloc, all.as_slice())?;
-        let lanes = empty_lanes(alloc, wires.len())?;
+        let wiring = Wiring::new(alloc, wires(alloc, all.as_slice())?)?;
+        let lanes = Lanes::new(alloc, wiring.len())?;
         let actors = new_actors(alloc, all.as_slice())?;
+        let turns = Vec::new(alloc);
+        let settles = Vec::new(alloc);
         Ok(World {
-            wires,
+            wiring,
             lanes,
             actors,
-            turns: Vec::new(alloc),
-            settles: Vec::new(alloc),
+            turns,
+            settles,
+            weight: 0,
             alloc,
         })
     }
@@ -60,7 +71,14 @@ impl World {
     pub fn is_drained(&self) -> bool
         ensures { result ≡ is_drained self.now }
     {
-        self.lanes.as_slice().iter().all(|lane| lane.is_empty())
+        self.lanes.are_empty()
+    }
+
+    /// The budget is passed: what was done weighs too much, or as many turns as may be were done and an item waits.
+    pub fn is_over(&self) -> bool
+        ensures { result ≡ is_over self.now }
+    {
+        MOST_WEIGHT < self.weight || (MOST_TURNS <= self.turns.len() && !self.is_drained())
     }
 
     /// The turn of a lane: its reader takes the item that waits longest, and what it sends is put on the lanes of its
@@ -68,30 +86,24 @@ impl World {
     pub fn turn(&mut self, lane: usize, at: u64) -> Result<(), NoMemory>
         ensures { OnOk result (self.new ≡ turn self.old lane at) }
     {
-        if self.lanes.len() <= lane || self.lanes.as_slice()[lane].is_empty() {
+        if self.lanes.is_lane_empty(lane) {
             return Ok(());
         }
         self.turns.reserve(1)?;
-        let wires = self.wires.as_slice();
-        let reader = wires[lane].reader;
-        let waiting = &mut self.lanes[lane];
-        let taken = waiting.take();
+        let reader = self.wiring.reader(lane);
+        let taken = self.lanes.take(lane as u32);
         let item = taken.item.copied()?;
         let actor = &mut self.actors[reader as usize];
         let Sent { stamp, outputs } = actor.turn(self.alloc, taken)?;
+        let weight = add_item(self.weight, &item);
+        self.weight = weight;
         self.turns.push_reserved(TurnDone {
             lane: lane as u32,
             at,
             stamp,
             item,
         });
-        deliver(
-            self.wires.as_slice(),
-            &mut self.lanes,
-            reader,
-            stamp,
-            outputs,
-        )?;
+        deliver(&self.wiring, &mut self.lanes, reader, stamp, outputs)?;
         Ok(())
     }
 
@@ -101,24 +113,27 @@ impl World {
         ensures { OnOk result (self.new ≡ issued self.old issues.items) }
     {
         let stamp = driver_clock(self.actors.as_slice());
-        deliver(self.wires.as_slice(), &mut self.lanes, 0, stamp, issues)?;
+        deliver(&self.wiring, &mut self.lanes, 0, stamp, issues)?;
         Ok(())
     }
 
-    /// A phase ends: what a settle tells is recorded, and every clock becomes one more than the greatest.
-    pub fn settle(&mut self) -> Result<(), NoMemory>
-        ensures { OnOk result (self.new ≡ settled self.old) }
+    /// A phase ends at a moment: what its settle tells is recorded, and every clock becomes one more than the greatest.
+    pub fn settle(&mut self, moment: u64) -> Result<(), NoMemory>
+        ensures { OnOk result (self.new ≡ settled moment self.old) }
     {
         let nodes = marks_of(self.alloc, self.actors.as_slice())?;
         let answers = Vec::new(self.alloc);
         self.settles.reserve(1)?;
         let clock = greatest_clock(self.actors.as_slice()) + 1;
-        self.settles.push_reserved(SettleDone {
+        let done = SettleDone {
             turns: self.turns.len() as u64,
-            moment: 0,
+            moment,
             nodes: Seq::from_vec(nodes),
             answers: Seq::from_vec(answers),
-        });
+        };
+        let weight = add_settle(self.weight, &done);
+        self.weight = weight;
+        self.settles.push_reserved(done);
         set_clocks(&mut self.actors, clock);
         Ok(())
     }
@@ -130,11 +145,11 @@ impl World {
         self.turns.len() as u64
     }
 
-    /// How many items wait on each lane.
-    pub fn waiting_counts(&self) -> Result<Vec<usize>, NoMemory>
-        ensures { IfOk result (λ counts. counts.items ≡ map length self.now.lanes) }
+    /// The lanes on which an item waits, in order, with how many do.
+    pub fn busy_lanes(&self) -> Result<Vec<Busy>, NoMemory>
+        ensures { IfOk result (λ found. found.items ≡ busy_lanes self.now.lanes) }
     {
-        counts_of(self.alloc, self.lanes.as_slice())
+        self.lanes.busy_lanes()
     }
 
     /// What was done, with the number of turns done as each round ended.
@@ -142,11 +157,12 @@ impl World {
         ensures { IfOk result (λ done. done ≡ record_of self marks.items) }
     {
         let World {
-            wires: _wires,
+            wiring: _wiring,
             lanes: _lanes,
             actors,
             turns,
             settles,
+            weight: _weight,
             alloc,
         } = self;
         let journals = journals_of(alloc, actors.as_slice())?;

@@ -40,7 +40,7 @@ fault_line fault = fault_text fault.line fault.number (fault_name fault.number)
 abbrev pub not_built_line : List ℕ
 not_built_line = line (codes "not built")
 
--- `unsettled in settle <k>`
+-- `unsettled in settle <k>`: an item still waits after the last round of that settle, or there the run passed its budget
 abbrev pub unsettled_line : ℕ → List ℕ
 unsettled_line settle = line (codes "unsettled in settle " ++ decimal settle)
 

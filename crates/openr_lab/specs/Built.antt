@@ -1,5 +1,5 @@
 -- What the program runs so far.
-use Rattle.std.specs.Prelude.{Bool, true, false, ◌&&◌, ◌==◌, nat_le, length, is_none}
+use Rattle.std.specs.Prelude.{Bool, true, false, ◌&&◌, is_none}
 use Rattle.std.specs.List.{list_all}
 use Rattle.lab_words.specs.declared.words.Mode.{Mode}
 use Rattle.lab_words.specs.declared.words.Mode.TheVariants.{Replay}
@@ -7,7 +7,7 @@ use Rattle.lab_words.specs.declared.words.Words.{Words}
 use Rattle.or_base.specs.declared.kind.Kind.{Kind}
 use Rattle.or_base.specs.declared.kind.Kind.TheVariants.{Stores, Full}
 use Rattle.net_scenario.specs.declared.command.Command.{Command}
-use Rattle.net_scenario.specs.declared.command.Command.TheVariants.{Settle, Set}
+use Rattle.net_scenario.specs.declared.command.Command.TheVariants.{Settle, Tick, Set, Up, Down, Script}
 use Rattle.net_scenario.specs.Scenario.{Laboratory}
 
 -- the program has the mode: it replays, and does nothing else
@@ -19,17 +19,19 @@ abbrev pub is_kind_built : Kind → Bool
 is_kind_built Stores = true
 is_kind_built Full = false
 
--- settles with 1,000 rounds, and sets of values that live for ever
+-- the commands that are run, whatever their fields say
 abbrev pub is_command_built : Command → Bool
-is_command_built (Settle rounds show) = rounds == 1000
-is_command_built (Set node pair) = is_none pair.value.ttl
+is_command_built (Settle rounds show) = true
+is_command_built (Tick to) = true
+is_command_built (Set node pair) = true
+is_command_built (Up link) = true
+is_command_built (Down link) = true
+is_command_built (Script link from acts) = true
 is_command_built _ = false
 
--- at most two stores and one link, with no other commands and without given turns
+-- stores and links, as many as a scenario may have, with no other commands and without given turns
 unfoldable pub is_lab_built : Laboratory → Bool
-is_lab_built lab =
-    is_kind_built lab.kind && nat_le (length lab.nodes) 2 && nat_le (length lab.links) 1 && list_all is_command_built lab.commands
-    && is_none lab.turns
+is_lab_built lab = is_kind_built lab.kind && list_all is_command_built lab.commands && is_none lab.turns
 
 -- the program runs the scenario in the mode that was asked for
 abbrev pub is_built : Words → Laboratory → Bool

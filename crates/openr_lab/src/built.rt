@@ -17,8 +17,12 @@ fn is_command_built(command: &Command) -> bool
     ensures { result ≡ is_command_built command.now }
 {
     match command {
-        Command::Settle { rounds, .. } => *rounds == 1000,
-        Command::Set { pair, .. } => pair.value.ttl.is_none(),
+        Command::Settle { .. } => true,
+        Command::Tick { .. } => true,
+        Command::Set { .. } => true,
+        Command::Up { .. } => true,
+        Command::Down { .. } => true,
+        Command::Script { .. } => true,
         _other => false,
     }
 }
@@ -36,8 +40,6 @@ fn is_lab_built(scenario: &Scenario) -> bool
     ensures { result ≡ is_lab_built scenario.now }
 {
     scenario.kind == Kind::Stores
-        && scenario.nodes().len() <= 2
-        && scenario.links().len() <= 1
         && are_commands_built(scenario.commands())
         && scenario.turns.is_none()
 }

@@ -36,6 +36,35 @@ const SILENT: &str = r#"{"do":"settle","show":"none"}
 const SHOWN: &str = r#"{"do":"settle","show":"stores"}
 "#;
 
+/// Three nodes in a line, and a settle.
+const LINE_OF_THREE: &str = r#"{"do":"lab","kind":"stores"}
+{"do":"node","name":"a"}
+{"do":"node","name":"b"}
+{"do":"node","name":"c"}
+{"do":"link","a":"a","b":"b"}
+{"do":"link","a":"b","b":"c"}
+{"do":"settle","show":"none"}
+"#;
+
+/// Five nodes in a line, without a settle.
+const LINE_OF_FIVE: &str = r#"{"do":"lab","kind":"stores"}
+{"do":"node","name":"a"}
+{"do":"node","name":"b"}
+{"do":"node","name":"c"}
+{"do":"node","name":"d"}
+{"do":"node","name":"e"}
+{"do":"link","a":"a","b":"b"}
+{"do":"link","a":"b","b":"c"}
+{"do":"link","a":"c","b":"d"}
+{"do":"link","a":"d","b":"e"}
+"#;
+
+const DOWN: &str = r#"{"do":"down","link":0}
+"#;
+
+const UP: &str = r#"{"do":"up","link":0}
+"#;
+
 /// One call of the program.
 struct Case {
     name: &'static str,
@@ -153,8 +182,132 @@ const CASES: &[Case] = &[
         output: "settle 1 moment 0\nend\n",
     },
     Case {
-        name: "a mode that isn't built is refused before the source is read",
+        name: "a value is lost at the end of its lifetime",
+        words: &["replay"],
+        input: &[
+            ONE_STORE,
+            r#"{"do":"set","node":"a","key":"x","version":1,"hex":"01","ttl":10}
+"#,
+            SILENT,
+            r#"{"do":"tick","to":9}
+"#,
+            SHOWN,
+            r#"{"do":"tick","to":10}
+"#,
+            SHOWN,
+        ],
+        failing_read: 0,
+        failing_write: 0,
+        status: 0,
+        has_record: true,
+        output: "settle 1 moment 0\nsettle 2 moment 9\nstore a entries 1 stale 0\nkey x 1 a 01 0 1\nsettle 3 moment 10\nstore a entries 2 stale 0\nend\n",
+    },
+    Case {
+        name: "one round is too few for links that come up",
+        words: &["replay"],
+        input: &[
+            LINE_OF_FIVE,
+            r#"{"do":"settle","rounds":1}
+"#,
+        ],
+        failing_read: 0,
+        failing_write: 0,
+        status: 4,
+        has_record: true,
+        output: "unsettled in settle 1\n",
+    },
+    Case {
+        name: "a message that is held back comes behind the next one and changes nothing",
+        words: &["replay"],
+        input: &[
+            STORES,
+            r#"{"do":"script","link":0,"from":"a","acts":["late1"]}
+"#,
+            SET_AT_A,
+            SHOWN,
+            r#"{"do":"set","node":"a","key":"x","version":2,"hex":"02"}
+"#,
+            SHOWN,
+        ],
+        failing_read: 0,
+        failing_write: 0,
+        status: 0,
+        has_record: true,
+        output: "settle 1 moment 0\nsettle 2 moment 0\nstore a entries 1 stale 0\nkey x 1 a 01 0 -\nstore b entries 0 stale 0\nsettle 3 moment 0\nstore a entries 2 stale 0\nkey x 2 a 02 0 -\nstore b entries 1 stale 0\nkey x 2 a 02 0 -\nend\n",
+    },
+    Case {
+        name: "a store passes on what is flooded to it",
+        words: &["replay"],
+        input: &[LINE_OF_THREE, SET_AT_A, SHOWN],
+        failing_read: 0,
+        failing_write: 0,
+        status: 0,
+        has_record: true,
+        output: "settle 1 moment 0\nsettle 2 moment 0\nstore a entries 1 stale 0\nkey x 1 a 01 0 -\nstore b entries 1 stale 0\nkey x 1 a 01 0 -\nstore c entries 1 stale 0\nkey x 1 a 01 0 -\nend\n",
+    },
+    Case {
+        name: "a link that goes down loses what is on its way",
+        words: &["replay"],
+        input: &[STORES, SET_AT_A, DOWN, SHOWN],
+        failing_read: 0,
+        failing_write: 0,
+        status: 0,
+        has_record: true,
+        output: "settle 1 moment 0\nsettle 2 moment 0\nstore a entries 1 stale 0\nkey x 1 a 01 0 -\nstore b entries 0 stale 0\nend\n",
+    },
+    Case {
+        name: "a link that is up again carries",
+        words: &["replay"],
+        input: &[STORES, DOWN, SILENT, UP, SILENT, SET_AT_A, SHOWN],
+        failing_read: 0,
+        failing_write: 0,
+        status: 0,
+        has_record: true,
+        output: "settle 1 moment 0\nsettle 2 moment 0\nsettle 3 moment 0\nsettle 4 moment 0\nstore a entries 1 stale 0\nkey x 1 a 01 0 -\nstore b entries 1 stale 0\nkey x 1 a 01 0 -\nend\n",
+    },
+    Case {
+        name: "two links between two nodes change a store once",
+        words: &["replay"],
+        input: &[
+            r#"{"do":"lab","kind":"stores"}
+{"do":"node","name":"a"}
+{"do":"node","name":"b"}
+{"do":"link","a":"a","b":"b"}
+{"do":"link","a":"a","b":"b","aif":"p","bif":"p"}
+"#,
+            SILENT,
+            SET_AT_A,
+            SHOWN,
+        ],
+        failing_read: 0,
+        failing_write: 0,
+        status: 0,
+        has_record: true,
+        output: "settle 1 moment 0\nsettle 2 moment 0\nstore a entries 1 stale 0\nkey x 1 a 01 0 -\nstore b entries 1 stale 0\nkey x 1 a 01 0 -\nend\n",
+    },
+    Case {
+        name: "the mode live isn't built, which is told before the source is read",
         words: &["live", "--workers", "4"],
+        input: &[STORES],
+        failing_read: 1,
+        failing_write: 0,
+        status: 3,
+        has_record: false,
+        output: "not built\n",
+    },
+    Case {
+        name: "the mode gen isn't built, and reads nothing",
+        words: &["--size", "2", "gen"],
+        input: &[STORES],
+        failing_read: 1,
+        failing_write: 0,
+        status: 3,
+        has_record: false,
+        output: "not built\n",
+    },
+    Case {
+        name: "the mode check isn't built, and no source is read for it",
+        words: &["check"],
         input: &[STORES],
         failing_read: 1,
         failing_write: 0,
@@ -237,26 +390,66 @@ const CASES: &[Case] = &[
 /// Scenarios that are read and not run yet.
 const UNBUILT: &[&str] = &[
     r#"{"do":"lab","kind":"full"}"#,
-    r#"{"do":"lab","kind":"stores"}
+    r#"{"do":"lab","kind":"full"}
 {"do":"node","name":"a"}
 {"do":"node","name":"b"}
-{"do":"node","name":"c"}"#,
+{"do":"link","a":"a","b":"b"}
+{"do":"set","node":"a","key":"x","version":1,"hex":"01"}
+{"do":"settle","show":"stores"}"#,
+    r#"{"do":"lab","kind":"full"}
+{"do":"node","name":"a"}
+{"do":"drain","node":"a","on":true}"#,
+    r#"{"do":"lab","kind":"full"}
+{"do":"node","name":"a"}
+{"do":"node","name":"b"}
+{"do":"link","a":"a","b":"b"}
+{"do":"linkdrain","node":"a","link":0,"on":true}"#,
+    r#"{"do":"lab","kind":"full"}
+{"do":"node","name":"a"}
+{"do":"node","name":"b"}
+{"do":"link","a":"a","b":"b"}
+{"do":"metric","node":"a","link":0,"metric":2}"#,
+    r#"{"do":"lab","kind":"full"}
+{"do":"node","name":"a"}
+{"do":"advertise","node":"a","prefix":"10.4.0.0/16"}"#,
+    r#"{"do":"lab","kind":"full"}
+{"do":"node","name":"a"}
+{"do":"withdraw","node":"a","prefix":"10.4.0.0/16"}"#,
+    r#"{"do":"lab","kind":"full"}
+{"do":"node","name":"a"}
+{"do":"aggregate","node":"a","prefix":"10.0.0.0/8","min":2}"#,
+    r#"{"do":"lab","kind":"full"}
+{"do":"node","name":"a"}
+{"do":"ask","node":"a","prefix":"10.4.0.0/16"}"#,
+    r#"{"do":"lab","kind":"stores"}
+{"do":"node","name":"a"}
+{"do":"own","node":"a","key":"x","hex":"01"}"#,
+    r#"{"do":"lab","kind":"stores"}
+{"do":"node","name":"a"}
+{"do":"disown","node":"a","key":"x"}"#,
     r#"{"do":"lab","kind":"stores"}
 {"do":"node","name":"a"}
 {"do":"node","name":"b"}
 {"do":"link","a":"a","b":"b"}
-{"do":"link","a":"a","b":"b","aif":"p","bif":"p"}"#,
+{"do":"sync","node":"a","link":0}"#,
     r#"{"do":"lab","kind":"stores"}
 {"do":"node","name":"a"}
-{"do":"set","node":"a","key":"x","version":1,"hex":"","ttl":5}"#,
-    r#"{"do":"lab","kind":"stores"}
-{"do":"settle","rounds":1001}"#,
-    r#"{"do":"lab","kind":"stores"}
-{"do":"tick","to":0}"#,
+{"do":"restart","node":"a"}"#,
     r#"{"do":"lab","kind":"stores"}
 {"do":"node","name":"a"}
 {"do":"get","node":"a","key":"x"}"#,
     r#"{"do":"lab","kind":"stores"}
+{"do":"node","name":"a"}
+{"do":"set","node":"a","key":"x","version":1,"hex":"01"}
+{"do":"settle"}
+{"do":"get","node":"a","key":"x"}
+{"do":"settle"}"#,
+    r#"{"do":"lab","kind":"stores"}
+{"do":"turn","lane":0,"at":0}"#,
+    r#"{"do":"lab","kind":"stores"}
+{"do":"node","name":"a"}
+{"do":"set","node":"a","key":"x","version":1,"hex":"01"}
+{"do":"settle","show":"stores"}
 {"do":"turn","lane":0,"at":0}"#,
 ];
 

@@ -8,7 +8,7 @@ use Rattle.net_record.proofs.phasing.phases_from.Given as goal
 -- the phases so far, and those that the items so far and the commands that are left give
 abbrev pub invariant-loop-command : goal.invariant-loop-command
 invariant-loop-command l = record {
-  phases : l.phases.items ++ phases_from l.all l.issues.items (drop l.command-index l.commands) ≡ phases_from l.all l.fn.first.items l.commands;
+  phases : l.phases.items ++ phases_from l.all l.moment l.issues.items (drop l.command-index l.commands) ≡ phases_from l.all 0 l.fn.first.items l.commands;
   small : All IssuesSmallLinks l.phases.items;
   issues : have_small_links l.issues.items ≡ true;
 }

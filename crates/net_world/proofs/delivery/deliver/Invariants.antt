@@ -8,8 +8,8 @@ use Rattle.net_world.proofs.delivery.deliver.Given as goal
 -- delivering what is left gives what delivering all of it gives
 abbrev pub invariant-loop-output : goal.invariant-loop-output
 invariant-loop-output l = record {
-  rest : delivered l.wires l.writer l.stamp l.lanes.items (into_iter_items l.output-iterator) ≡ delivered l.wires l.writer l.stamp l.fn.lanes.items (into_iter_items l.initial.output-iterator);
-  len : length l.lanes.items ≡ length l.fn.lanes.items;
+  rest : delivered l.wiring l.writer l.stamp l.lanes (into_iter_items l.output-iterator) ≡ delivered l.wiring l.writer l.stamp l.fn.lanes (into_iter_items l.initial.output-iterator);
+  len : length l.lanes ≡ length l.fn.lanes;
   small : have_small_links (into_iter_items l.output-iterator) ≡ true;
-  sound : StaySound l.stamp l.fn.lanes.items l.lanes.items;
+  sound : StaySound l.stamp l.fn.lanes l.lanes;
 }

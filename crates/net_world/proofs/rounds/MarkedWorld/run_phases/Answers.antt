@@ -12,7 +12,7 @@ loop-phase-preserved c =
     let e : left ≡ c.in-Some.phase ∷ others = search rules in
     record {
       rest =
-          phases_step c.loop-phase.number c.loop-phase.self c.run_phase.new.self c.settle.new.self c.in-Some.phase others left e (search rules) (search rules) (search rules)
+          phases_step c.loop-phase.number c.loop-phase.self c.run_phase.new.self c.in-Some.phase others left e (search rules) (search rules)
           ∙ c.loop-phase.invariant.rest;
       small = All-rest IssuesSmallLinks c.in-Some.phase others left e c.loop-phase.invariant.small;
       few = omega (arith, ap length e);

@@ -7,17 +7,23 @@ use Rattle.net_world.proofs.world.World.issue.Goals as goal
 pub invariant_of-self : goal.invariant_of-self
 invariant_of-self c =
     let i = c.self.inside in
-    let w : WorldState = record { wires = i.wires.items; lanes = i.lanes.items; actors = i.actors.items; turns = i.turns.items; settles = i.settles.items } in
-    sound_issued w c.driver_clock-stamp.result c.deliver.new.lanes.items c.self.invariant (search rules) (search rules) (search rules)
+    let w : WorldState = record { wires = i.wiring; lanes = i.lanes; actors = i.actors.items; turns = i.turns.items; settles = i.settles.items } in
+    record {
+      sound = sound_issued w c.driver_clock-stamp.result c.deliver.new.lanes c.self.invariant.sound (search rules) (search rules) (search rules);
+      weighed = c.self.invariant.weighed;
+    }
 
 pub invariant_of-self-2 : goal.invariant_of-self-2
 invariant_of-self-2 c =
     let i = c.self.inside in
-    let w : WorldState = record { wires = i.wires.items; lanes = i.lanes.items; actors = i.actors.items; turns = i.turns.items; settles = i.settles.items } in
-    sound_issued w c.driver_clock-stamp.result c.deliver.new.lanes.items c.self.invariant (search rules) (search rules) (search rules)
+    let w : WorldState = record { wires = i.wiring; lanes = i.lanes; actors = i.actors.items; turns = i.turns.items; settles = i.settles.items } in
+    record {
+      sound = sound_issued w c.driver_clock-stamp.result c.deliver.new.lanes c.self.invariant.sound (search rules) (search rules) (search rules);
+      weighed = c.self.invariant.weighed;
+    }
 
 pub returns : goal.returns
 returns c =
     let i = c.self.inside in
-    let w : WorldState = record { wires = i.wires.items; lanes = i.lanes.items; actors = i.actors.items; turns = i.turns.items; settles = i.settles.items } in
-    issue_made w c.driver_clock-stamp.result c.args.issues.items c.deliver.new.lanes.items (search rules) (search rules) ∙ ap (λ v. issued v c.args.issues.items) c.self.view_is
+    let w : WorldState = record { wires = i.wiring; lanes = i.lanes; actors = i.actors.items; turns = i.turns.items; settles = i.settles.items } in
+    issue_made w c.driver_clock-stamp.result c.args.issues.items c.deliver.new.lanes (search rules) (search rules) ∙ ap (λ v. issued v c.args.issues.items) c.self.view_is

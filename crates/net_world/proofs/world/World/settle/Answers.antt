@@ -1,29 +1,33 @@
-use Rattle.std.proofs.Common.{◌≡◌, ◌+◌, ap, ◌∙◌, rules, arith}
+use Rattle.std.proofs.Common.{◌≡◌, ◌+◌, [], length, ap, ◌∙◌, rules, arith}
 use Rattle.net_record.specs.World.{WorldState, greatest_clock, settled}
 use Rattle.net_world.specs.Sound.{done_in}
 use Rattle.net_world.proofs.Soundness.{greatest_below, sound_settled}
+use Rattle.net_world.proofs.Weighed.{weighs_settle}
 use Rattle.net_world.proofs.Turning.{settle_made}
 use Rattle.net_world.proofs.world.World.settle.Goals as goal
 
 pub overflow_add-clock : goal.overflow_add-clock
 overflow_add-clock c =
     let i = c.self.inside in
-    let w : WorldState = record { wires = i.wires.items; lanes = i.lanes.items; actors = i.actors.items; turns = i.turns.items; settles = i.settles.items } in
+    let w : WorldState = record { wires = i.wiring; lanes = i.lanes; actors = i.actors.items; turns = i.turns.items; settles = i.settles.items } in
     let is : c.greatest_clock-clock.result ≡ greatest_clock w.actors = search rules in
-    omega (arith, is, greatest_below (done_in w) w.actors c.self.invariant.clocks, i.turns.small, i.settles.small)
+    omega (arith, is, greatest_below (done_in w) w.actors c.self.invariant.sound.clocks, i.turns.small, i.settles.small)
 
 pub invariant_of-self-2 : goal.invariant_of-self-2
 invariant_of-self-2 c =
     let i = c.self.inside in
-    let w : WorldState = record { wires = i.wires.items; lanes = i.lanes.items; actors = i.actors.items; turns = i.turns.items; settles = i.settles.items } in
+    let w : WorldState = record { wires = i.wiring; lanes = i.lanes; actors = i.actors.items; turns = i.turns.items; settles = i.settles.items } in
     let is : c.greatest_clock-clock.result ≡ greatest_clock w.actors = search rules in
-    sound_settled w (c.greatest_clock-clock.result + 1) c.set_clocks.new.actors.items c.push_reserved.new.self.items c.self.invariant (omega (arith, is)) (search rules) (search rules)
+    record {
+      sound = sound_settled w (c.greatest_clock-clock.result + 1) c.set_clocks.new.actors.items c.push_reserved.new.self.items c.self.invariant.sound (omega (arith, is)) (search rules) (search rules);
+      weighed = weighs_settle w.turns w.settles (record { turns = length w.turns; moment = c.args.moment; nodes = c.in_ok-nodes.nodes.items; answers = [] }) c.push_reserved.new.self.items i.weight c.add_settle-weight.result c.self.invariant.weighed (search rules) (search rules);
+    }
 
 pub returns : goal.returns
 returns c =
     let i = c.self.inside in
-    let w : WorldState = record { wires = i.wires.items; lanes = i.lanes.items; actors = i.actors.items; turns = i.turns.items; settles = i.settles.items } in
+    let w : WorldState = record { wires = i.wiring; lanes = i.lanes; actors = i.actors.items; turns = i.turns.items; settles = i.settles.items } in
     let is : c.greatest_clock-clock.result ≡ greatest_clock w.actors = search rules in
-    settle_made w (c.greatest_clock-clock.result + 1) c.in_ok-nodes.nodes.items c.set_clocks.new.actors.items c.push_reserved.new.self.items
+    settle_made w c.args.moment (c.greatest_clock-clock.result + 1) c.in_ok-nodes.nodes.items c.set_clocks.new.actors.items c.push_reserved.new.self.items
     (omega (arith, is)) (search rules) (search rules) (search rules)
-    ∙ ap settled c.self.view_is
+    ∙ ap (settled c.args.moment) c.self.view_is

@@ -1,0 +1,40 @@
+-- The lanes on which an item waits: a round goes through these alone.
+use Rattle.std.specs.Prelude.{◌≡◌, ℕ, ◌+◌, List, [], ◌∷◌, Bool, length, map, if◌then◌else◌, slice_index_or}
+use Rattle.std.specs.Ordering.{nat_cmp}
+use Rattle.std.specs.BTreeSet.{insert_key}
+use Rattle.std.specs.BTreeMap.{is_at}
+use Rattle.std.specs.Set.{remove_key}
+use Rattle.or_base.specs.declared.item.Stamped.{Stamped}
+use Rattle.net_record.specs.World.{WorldState, is_empty}
+use Rattle.net_record.specs.Rounds.{turns_on}
+use Rattle.net_world.specs.declared.lanes.Busy.{Busy}
+
+-- the numbers of the lanes on which an item waits, where the first of these has the number given
+abbrev pub busy_from : ℕ → List (List Stamped) → List ℕ
+busy_from number [] = []
+busy_from number (items ∷ lanes) = if is_empty items then busy_from (number + 1) lanes else number ∷ busy_from (number + 1) lanes
+
+-- a lane, and how many items wait on it
+abbrev pub busy_at : List (List Stamped) → ℕ → Busy
+busy_at lanes lane = record { lane = lane; count = length (slice_index_or lanes lane []) }
+
+-- the lanes on which an item waits, with how many do
+abbrev pub busy_lanes : List (List Stamped) → List Busy
+busy_lanes lanes = map (busy_at lanes) (busy_from 0 lanes)
+
+-- of each of these lanes as many turns as items waited on it
+abbrev pub turns_on_each : WorldState → List Busy → WorldState
+turns_on_each w [] = w
+turns_on_each w (busy ∷ others) = turns_on_each (turns_on w busy.lane busy.count) others
+
+-- these are the numbers of the lanes on which an item waits
+abbrev pub AreBusy : List (List Stamped) → List ℕ → Type 0
+AreBusy lanes busy = busy ≡ busy_from 0 lanes
+
+-- the numbers with that of a lane on which an item waits now, where none did
+abbrev pub marked : Bool → ℕ → List ℕ → List ℕ
+marked was_empty lane busy = if was_empty then insert_key nat_cmp busy lane else busy
+
+-- the numbers without that of a lane on which no item waits now
+abbrev pub unmarked : Bool → ℕ → List ℕ → List ℕ
+unmarked is_empty lane busy = if is_empty then remove_key (is_at (nat_cmp lane)) busy else busy
