@@ -2,8 +2,9 @@
 //!
 //! A flood names the nodes that it has passed, so that it runs in no circle. `flood_target` says whether it goes on
 //! to a peer: one that is neither this node nor among those passed. `flood_message` makes the flood of some keys of a
-//! table at a moment: for each key, in the order given, what is held under it, with the lifetime that is left less
-//! one millisecond (kv_value's `sent_ttl`); a key that isn't held, or whose lifetime is used up, sends nothing.
+//! table at a moment: for each key, in the order given, what kv_table's `sent_pairs` gives, which is what is held under
+//! it, with the lifetime that is left less one millisecond; a key that isn't held, or whose lifetime is used up, sends
+//! nothing.
 //! Where nothing is sent there is no flood. The flood's list of passed nodes is the one given, followed by this node.
 //! The promise is that both answer exactly what `specs/Flooding.antt` defines over the table's journal, but for want
 //! of memory, which only `flood_message` can meet.

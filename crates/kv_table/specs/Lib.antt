@@ -1,2 +1,4 @@
 pub mod Offered
 pub mod Expiry
+pub mod Sending
+pub mod Digest

@@ -3,17 +3,22 @@
 //! A store offers it pairs and looks values up. An offer is merged exactly where the pair is within the limits and
 //! its value exceeds what is held under its key (`offer`, defined in or_base); every merge is an entry at the end of
 //! the journal, with its moment and its origin. Keys with a lifetime are lost when their deadline is reached, with an
-//! entry for each (`expire`, defined in `specs/Expiry.antt`); nothing else changes the table. Contracts see the table
-//! as its journal, so what they say of it stays true of any faster table. This is the plain body: a look-up scans the
-//! journal from its end (or_base's `held_under`), so its time is linear in the journal's length. The promise is
+//! entry for each (`expire`, defined in `specs/Expiry.antt`), and a store that restarts loses all of them with one
+//! entry (`clear`); nothing else changes the table. What it sends of keys, with the lifetime that is left, is defined in
+//! `specs/Sending.antt`, and the digest that tells of it without its values in `specs/Digest.antt`. Contracts see the
+//! table as its journal, so what they say of it stays true of any faster table. This is the plain body: a look-up scans
+//! the journal from its end (or_base's `held_under`), so its time is linear in the journal's length. The promise is
 //! that `get` is `holds` and `offer` is `offer` of or_base, to the entry; the law that the greatest value offered is
 //! held follows from or_base's `offers_hold_greatest`.
 //!
-//! The files: `expiry` (the deadlines that are due), `offered` (what becomes of an offer), `table`.
+//! The files: `digest` (what the table tells of itself), `expiry` (the deadlines that are due), `offered` (what becomes of
+//! an offer), `sending` (what is sent of keys), `table`.
 #![tactic(auto)]
 
+mod digest;
 mod expiry;
 mod offered;
+mod sending;
 mod table;
 
 pub use offered::Offered;
@@ -112,6 +117,74 @@ mod tests {
             }
         }
         assert_eq!(rt; keys.as_str(), "cab");
+        Ok(())
+    }
+    /// The key of a text.
+    fn key(alloc: Global, text: &str) -> Result<Key, Fail> {
+        Ok(Key::from_string(String::from_str(alloc, text)?))
+    }
+
+    /// At 0 `x` is merged for 10 ms and `y` for ever; `z` isn't held.
+    #[test]
+    fn what_is_held_and_not_sent_is_counted(rt: HostRuntime) -> Result<(), Fail> {
+        let alloc = rt.alloc();
+        let mut table = KvTable::new(alloc)?;
+        merge(&mut table, alloc, "x", 0, 10)?;
+        table.offer(pair(alloc, "y", &[1], 0)?, 0, Origin::Local)?;
+        let mut keys = Vec::new(alloc);
+        for text in ["x", "y", "z"] {
+            keys.push(key(alloc, text)?)?;
+        }
+        for (now, sent, withheld) in [(0u64, 2usize, 0u64), (8, 2, 0), (9, 1, 1)] {
+            assert_eq!(rt;
+                table.sent_pairs(now, keys.as_slice())?.len(),
+                sent,
+                "at {now} ms"
+            );
+            assert_eq!(rt;
+                table.withheld_count(now, keys.as_slice()),
+                withheld,
+                "at {now} ms"
+            );
+        }
+        Ok(())
+    }
+
+    #[test]
+    fn a_digest_has_a_row_for_each_key_that_is_held(rt: HostRuntime) -> Result<(), Fail> {
+        let alloc = rt.alloc();
+        let mut table = KvTable::new(alloc)?;
+        table.offer(pair(alloc, "y", &[1], 3)?, 0, Origin::Local)?;
+        table.offer(pair(alloc, "x", &[1, 0], 0)?, 0, Origin::Local)?;
+        merge(&mut table, alloc, "z", 0, 10)?;
+        table.expire(10)?;
+
+        let rows = table.digest()?;
+        assert_eq!(rt; rows.len(), 2);
+        assert_eq!(rt; rows[0].key.as_str(), "x");
+        assert_eq!(rt; rows[0].ttl_version, 0);
+        assert_eq!(rt; rows[1].key.as_str(), "y");
+        assert_eq!(rt; rows[1].version, 1);
+        assert_eq!(rt; rows[1].originator.as_str(), "a");
+        // The hash of version 1, originator `a` and value 01, from Python's `hashlib.sha256`.
+        assert_eq!(rt; rows[1].hash, 0x0a6e_7e81_1c25_de53);
+        assert_eq!(rt; rows[1].ttl_version, 3);
+        Ok(())
+    }
+
+    #[test]
+    fn a_cleared_table_holds_nothing(rt: HostRuntime) -> Result<(), Fail> {
+        let alloc = rt.alloc();
+        let mut table = KvTable::new(alloc)?;
+        table.offer(pair(alloc, "x", &[1], 5)?, 0, Origin::Local)?;
+        table.clear(3)?;
+        assert!(rt; table.get(&key(alloc, "x")?).is_none());
+        assert_eq!(rt; table.digest()?.len(), 0);
+
+        // What was lost is merged again, also where it is less.
+        let offered = table.offer(pair(alloc, "x", &[1], 0)?, 4, Origin::Flood)?;
+        assert_eq!(rt; offered, Offered::Changed);
+        assert_eq!(rt; table.journal().len(), 3);
         Ok(())
     }
 }

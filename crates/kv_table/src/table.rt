@@ -1,4 +1,4 @@
-ghost use Rattle.std.specs.Prelude.{◌≡◌, [], length, IfOk, OnOk, OnErr};
+ghost use Rattle.std.specs.Prelude.{◌≡◌, ◌++◌, ◌∷◌, [], length, IfOk, OnOk, OnErr};
 
 use crate::expiry::{Due, deadlines_due};
 use crate::offered::Offered;
@@ -25,6 +25,7 @@ impl Model for KvTable {
 
 impl KvTable {
     ghost use Rattle.std.specs.Option.{option_map};
+    ghost use Rattle.or_base.specs.declared.entry.JournalEntry.TheVariants.{Cleared};
     ghost use Rattle.or_base.specs.Journal.{holds, offer};
     ghost use Rattle.kv_table.specs.Offered.{offered_of};
     ghost use Rattle.kv_table.specs.Expiry.{due, expire};
@@ -36,6 +37,11 @@ impl KvTable {
         Ok(KvTable {
             entries: Vec::new(alloc),
         })
+    }
+
+    /// The allocator of what the table gives.
+    pub(crate) fn alloc(&self) -> Global {
+        *self.entries.allocator()
     }
 
     /// Every change of the table, from the oldest to the newest.
@@ -83,8 +89,7 @@ impl KvTable {
         ensures ok { OnOk result (self.new ≡ expire self.old now) }
         ensures err { OnErr result (self.new ≡ self.old) }
     {
-        let alloc = *self.entries.allocator();
-        let lost = deadlines_due(alloc, self.entries.as_slice(), now)?;
+        let lost = deadlines_due(self.alloc(), self.entries.as_slice(), now)?;
         let count = lost.len() as u64;
         self.entries.reserve(lost.len())?;
         for Due { key, .. } in lost {
@@ -92,5 +97,14 @@ impl KvTable {
                 .push_reserved(JournalEntry::Expired { key, at: now });
         }
         Ok(count)
+    }
+    /// Loses all that is held, as a store that restarts at the moment `now` does. Where memory runs out the table stays
+    /// as it was.
+    pub fn clear(&mut self, now: u64) -> Result<(), NoMemory>
+        ensures ok { OnOk result (self.new ≡ self.old ++ Cleared now ∷ []) }
+        ensures err { OnErr result (self.new ≡ self.old) }
+    {
+        self.entries.push(JournalEntry::Cleared { at: now })?;
+        Ok(())
     }
 }

@@ -6,15 +6,18 @@
 //! greater of two. The promise of this crate is `joining_has_laws`: joining is commutative, associative and
 //! idempotent up to such sameness, so values that are joined in any order and grouping, and any number of times
 //! each, give the same. The order is defined in or_base, the joined value and its laws in `specs/Joined.antt`.
-//! `sent_ttl` says with which lifetime a value is sent (`specs/Sending.antt`). Nothing here allocates.
+//! `sent_ttl` says with which lifetime a value is sent (`specs/Sending.antt`), and `hash_of` gives the hash by which a
+//! digest tells values of one version and originator apart (`specs/Hashing.antt`). Nothing here allocates.
 #![tactic(auto)]
 
 ghost use Rattle.std.specs.Prelude.{◌≡◌};
 ghost use Rattle.or_base.specs.Order.{value_cmp};
 ghost use Rattle.kv_value.specs.Joined.{greater_of, JoinLaws};
 
+mod hash;
 mod sent;
 
+pub use hash::hash_of;
 use or_base::KvValue;
 pub use sent::{Sent, sent_ttl};
 use std::cmp::Ordering;
@@ -48,3 +51,6 @@ pub fn joined<'a>(a: &'a KvValue, b: &'a KvValue) -> &'a KvValue
 pub fn joining_has_laws()
     ensures { JoinLaws }
 {}
+
+#[cfg(test)]
+mod tests;

@@ -38,9 +38,9 @@ pub fn held_under<'a>(journal: &'a [JournalEntry], key: &Key) -> Option<Held<'a>
     None
 }
 
-/// Adds a key to keys in byte order.
+/// Adds a key to keys in byte order, unless it is there.
 #[tactic(auto, using(crate::proofs::Keys::with_key_steps))]
-fn add_key(keys: &mut Vec<Key>, key: &Key) -> Result<(), NoMemory>
+pub fn add_key(keys: &mut Vec<Key>, key: &Key) -> Result<(), NoMemory>
     ensures { OnOk result (keys.new.items ≡ with_key key.now keys.old.items) }
 {
     for place in 0..keys.len() {

@@ -46,7 +46,7 @@ pub use digest::DigestRow;
 pub use entry::JournalEntry;
 pub use held::Held;
 pub use item::{Item, Stamped, TurnDone};
-pub use journal::{held_keys, held_under};
+pub use journal::{add_key, held_keys, held_under};
 pub use kind::Kind;
 pub use limits::{
     has_key_bytes, has_name_bytes, is_interface_name, is_key, is_node_name, is_valid_pair,

@@ -1,0 +1,5 @@
+pub mod Rows
+pub mod Numbers
+pub mod Written
+pub mod Current
+pub mod Law

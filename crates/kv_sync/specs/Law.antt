@@ -1,0 +1,55 @@
+-- A session's number is never used again.
+use Rattle.std.specs.Prelude.{ℕ, ◌+◌, ◌^◌, ◌<◌, List, [], ◌∷◌, length}
+use Rattle.kv_sync.specs.declared.session.SyncPhase.TheVariants.{Dumped, Pushed}
+use Rattle.kv_sync.specs.Sessions.{SessionsState, no_sessions, session_on, without_session, without_sessions, capped, started, current, after_reply, after_ack, after_push}
+use Rattle.kv_sync.specs.Running.{AreNumbered}
+
+-- what can be done with the sessions of a store
+pub data Step : Type 0 where
+  -- a session starts on a link, with this peer, at this length of the journal
+  start : ℕ → List ℕ → ℕ → Step
+  -- a reply on a link, with a session's number, the length of the peer's journal, and how many pairs the peer withheld
+  reply : ℕ → ℕ → ℕ → ℕ → Step
+  -- a push on a link, of which so many pairs are withheld
+  push : ℕ → ℕ → Step
+  -- an acknowledgement on a link, with a session's number
+  ack : ℕ → ℕ → Step
+  drop_link : ℕ → Step
+  drop_all : Step
+
+abbrev pub after_step : SessionsState → Step → SessionsState
+after_step s (start link peer a0) = started s link peer a0
+after_step s (reply link number b0 withheld) = after_reply s link b0 withheld (current s link number Dumped)
+after_step s (push link withheld) = after_push s link withheld (session_on s link)
+after_step s (ack link number) = after_ack s link (current s link number Pushed)
+after_step s (drop_link link) = without_session s link
+after_step s drop_all = without_sessions s
+
+abbrev pub after_steps : SessionsState → List Step → SessionsState
+after_steps s [] = s
+after_steps s (step ∷ steps) = after_steps (after_step s step) steps
+
+-- the number of the session that a step starts, if it starts one, and then these
+abbrev pub with_number : SessionsState → Step → List ℕ → List ℕ
+with_number s (start link peer a0) later = capped (s.last + 1) ∷ later
+with_number s (reply link number b0 withheld) later = later
+with_number s (push link withheld) later = later
+with_number s (ack link number) later = later
+with_number s (drop_link link) later = later
+with_number s drop_all later = later
+
+-- the numbers of the sessions that steps start, in order
+abbrev pub numbers_given : SessionsState → List Step → List ℕ
+numbers_given s [] = []
+numbers_given s (step ∷ steps) = with_number s step (numbers_given (after_step s step) steps)
+
+-- each number is above this one and above those before it
+abbrev pub RiseFrom : ℕ → List ℕ → Type 0
+RiseFrom last [] = Unit {0}
+RiseFrom last (number ∷ numbers) = (last < number) × RiseFrom number numbers
+
+pub record NumbersAreNew : Type 0 where
+  -- from any sessions on, numbers that are given rise from the one that was given last, as long as they are within 64 bits
+  pub rise : (s : SessionsState) (steps : List Step) → s.last + length (numbers_given s steps) < 2 ^ 64 → RiseFrom s.last (numbers_given s steps)
+  -- the sessions that run at any time have numbers that were given, and as long as the last is within 64 bits no two have the same
+  pub apart : (steps : List Step) → AreNumbered (after_steps no_sessions steps).last (after_steps no_sessions steps).running

@@ -1,0 +1,5 @@
+pub mod Difference
+pub mod Sessions
+pub mod Running
+pub mod Messages
+pub mod Law

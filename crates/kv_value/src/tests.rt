@@ -1,0 +1,66 @@
+use crate::hash_of;
+use or_base::{Bytes, KvValue, Name};
+use std::alloc::{AllocError, Global};
+use std::test::Fail;
+
+/// A value that lives for ever.
+fn value(
+    alloc: Global,
+    version: u64,
+    originator: &str,
+    bytes: &[u8],
+) -> Result<KvValue, AllocError> {
+    Ok(KvValue {
+        version,
+        originator: Name::from_string(String::from_str(alloc, originator)?),
+        value: Bytes::from_vec(bytes.to_vec(alloc)?),
+        ttl: None,
+        ttl_version: 0,
+    })
+}
+
+/// Version, originator, value bytes and hash. Each hash is the first 8 bytes of what Python's `hashlib.sha256` gives for
+/// the framing that `struct.pack` made. That of the first is 0000000000000001 00000001 61 00000001 01.
+const CASES: [(u64, &str, &[u8], u64); 7] = [
+    (1, "a", &[1], 0x0a6e_7e81_1c25_de53),
+    (1, "a", &[], 0x7226_ed18_b31b_51a3),
+    (1, "", &[], 0x7838_2582_2a6f_9e62),
+    // The two differ in where the originator ends.
+    (1, "ab", &[1], 0xedbe_f78c_665a_d661),
+    (1, "a", &[98, 1], 0x484a_4cb1_5ee1_a67f),
+    (2, "a", &[1], 0x0b9b_2922_1448_66e1),
+    (u64::MAX, "node", &[255; 64], 0x4a74_b1db_9f2f_9034),
+];
+
+#[test]
+fn hashes_are_of_the_framing(rt: HostRuntime) -> Result<(), Fail> {
+    let alloc = rt.alloc();
+    for (version, originator, bytes, want) in CASES {
+        let v = value(alloc, version, originator, bytes)?;
+        assert_eq!(rt; hash_of(&v), want, "{version} of {originator}");
+    }
+    Ok(())
+}
+
+#[test]
+fn lifetimes_are_not_hashed(rt: HostRuntime) -> Result<(), Fail> {
+    let alloc = rt.alloc();
+    let mut v = value(alloc, 1, "a", &[1])?;
+    v.ttl = Some(7);
+    v.ttl_version = 9;
+    assert_eq!(rt; hash_of(&v), 0x0a6e_7e81_1c25_de53);
+    Ok(())
+}
+
+#[test]
+fn the_longest_value_is_hashed(rt: HostRuntime) -> Result<(), Fail> {
+    let alloc = rt.alloc();
+    let mut bytes = Vec::new(alloc);
+    for i in 0..4096usize {
+        bytes.push((i % 256) as u8)?;
+    }
+    let v = value(alloc, 1 << 62, "r1n1.lab-a_b-c.d-e.f", bytes.as_slice())?;
+    // From `hashlib.sha256` over the 4,132 bytes of the framing.
+    assert_eq!(rt; hash_of(&v), 0x437c_32f4_bfa4_1fb1);
+    Ok(())
+}
