@@ -1,2 +1,5 @@
 pub mod Peers
 pub mod Growth
+pub mod Starting
+pub mod Answering
+pub mod Turn

@@ -18,7 +18,7 @@ use Rattle.kv_store.specs.Store.{StoreState, message_on, relay_to, begin_to, flo
 
 -- ---- what floods name
 
-small_message : (me : List ℕ) (link : ℕ) (msg : Option Msg) → link < 2 ^ 31 → have_small_links (message_on me link msg) ≡ true
+pub small_message : (me : List ℕ) (link : ℕ) (msg : Option Msg) → link < 2 ^ 31 → have_small_links (message_on me link msg) ≡ true
 small_message me link None small = refl
 small_message me link (Some msg) small = grind (arith, nat_tests)
 
@@ -26,7 +26,7 @@ small_if : (test : Bool) (outputs : List Output) → have_small_links outputs �
 small_if true outputs small = small
 small_if false outputs small = refl
 
-small_both : (xs ys : List Output) → have_small_links xs ≡ true → have_small_links ys ≡ true → have_small_links (xs ++ ys) ≡ true
+pub small_both : (xs ys : List Output) → have_small_links xs ≡ true → have_small_links ys ≡ true → have_small_links (xs ++ ys) ≡ true
 small_both xs ys hx hy =
     list_all-append sends_small_link xs ys ∙ ap (λ b. b && have_small_links ys) hx ∙ hy
 

@@ -5,10 +5,11 @@ ghost use Rattle.std.specs.List.{flat_map};
 ghost use Rattle.std.specs.Map.{keys_of};
 ghost use Rattle.kv_store.specs.Store.{origin_after, begins_here, is_own, own_keys, relayed_keys, message_on, relay_to, begin_to};
 
+use crate::answers::send_on;
 use kv_flood::{flood_message, flood_target};
 use kv_table::KvTable;
-use or_actor::{FIRST_LINK_PORT, Outbox};
-use or_base::{Item, JournalEntry, Key, Msg, Name, NoMemory, Origin, held_keys};
+use or_actor::Outbox;
+use or_base::{JournalEntry, Key, Msg, Name, NoMemory, Origin, held_keys};
 use std::alloc::Global;
 use std::collections::BTreeMap;
 
@@ -73,14 +74,13 @@ pub fn relayed_keys(alloc: Global, entries: &[JournalEntry]) -> Result<Vec<Key>,
     Ok(keys)
 }
 
-/// Sends a message to the peer on a link, if there is one.
-fn send_on(me: &Name, link: u32, msg: Option<Msg>, out: &mut Outbox) -> Result<(), NoMemory>
+/// Sends a message on a link, if there is one.
+fn send_if(me: &Name, link: u32, msg: Option<Msg>, out: &mut Outbox) -> Result<(), NoMemory>
     requires { link < 2 ^ 31 }
     ensures sent { OnOk result (out.new ≡ out.old ++ message_on me.now link msg) }
 {
     if let Some(msg) = msg {
-        let from = me.copied()?;
-        out.send(FIRST_LINK_PORT + link, Item::Net { link, from, msg })?;
+        send_on(me, link, msg, out)?;
     }
     Ok(())
 }
@@ -117,7 +117,7 @@ impl Floods<'_> {
         if flood_target(self.me, peer, self.passed) {
             let now = self.moment;
             let msg = flood_message(alloc, self.table, now, self.relayed, self.passed, self.me)?;
-            send_on(self.me, link, msg, out)?;
+            send_if(self.me, link, msg, out)?;
         }
         Ok(())
     }
@@ -136,7 +136,7 @@ impl Floods<'_> {
     {
         let _peer = peer;
         let msg = flood_message(alloc, self.table, self.moment, self.own, &[], self.me)?;
-        send_on(self.me, link, msg, out)?;
+        send_if(self.me, link, msg, out)?;
         Ok(())
     }
 
