@@ -9,7 +9,7 @@ use Rattle.net_record.specs.declared.phase.Phase.{Phase}
 use Rattle.net_record.specs.Roles.{roles}
 use Rattle.net_record.specs.Wires.{wires}
 use Rattle.net_record.specs.Phases.{phases}
-use Rattle.net_record.specs.World.{WorldState, world_of, start, new_actor, is_drained, issued, settled, driver_clock, with_clock, greatest_clock}
+use Rattle.net_record.specs.World.{WorldState, world_of, start, new_actor, is_drained, issued, settled, driver_clock, settled_actor, greatest_clock}
 use Rattle.net_record.specs.Budget.{is_over}
 use Rattle.net_record.specs.Rounds.{Marked, Ended, round, after_round, rounds_of, phase_of, settle_of, rounds_from, round_robin}
 use Rattle.net_record.specs.Run.{begun, advance, run_from, run, schedule_of, RoundsAreARun}
@@ -38,7 +38,7 @@ pub wired_settled : (moment : ℕ) (w : WorldState) → IsWired w → IsWired (s
 unfolding settled
 wired_settled moment w wired = record {
   as_many = wired.as_many;
-  readers = readers_among_as_many (length w.actors) (length (map (with_clock (greatest_clock w.actors + 1)) w.actors)) w.wires (sym (length-map w.actors (with_clock (greatest_clock w.actors + 1)))) wired.readers;
+  readers = readers_among_as_many (length w.actors) (length (map (settled_actor (greatest_clock w.actors + 1)) w.actors)) w.wires (sym (length-map w.actors (settled_actor (greatest_clock w.actors + 1)))) wired.readers;
 }
 
 -- no round is wanted any more

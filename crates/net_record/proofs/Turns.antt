@@ -19,7 +19,7 @@ abbrev some_wire : Wire
 some_wire = record { writer = 0; port = 0; reader = 0 }
 
 abbrev some_actor : ActorState
-some_actor = record { part = Driver; clock = 0 }
+some_actor = record { part = Driver; clock = 0; told = 0 }
 
 -- a turn that takes an item: the actor that took it
 pub record Took (w : WorldState) (lane at : ℕ) (s : Stamped) (others : List Stamped) : Type 0 where

@@ -4,7 +4,7 @@ use Rattle.or_actor.specs.declared.output.Output.{Output}
 use Rattle.or_actor.specs.declared.output.Output.TheVariants.{To}
 use Rattle.net_scenario.specs.declared.declared.LinkDecl.{LinkDecl}
 use Rattle.net_scenario.specs.declared.command.Command.{Command}
-use Rattle.net_scenario.specs.declared.command.Command.TheVariants.{Settle, Tick, Set, Up, Down, Script}
+use Rattle.net_scenario.specs.declared.command.Command.TheVariants.{Settle, Tick, Set, Sync, Restart, Up, Down, Script}
 use Rattle.net_scenario.specs.Scenario.{Laboratory}
 use Rattle.net_record.specs.declared.role.NodeModule.TheVariants.{Store, Desk}
 use Rattle.net_record.specs.declared.role.Role.{Role}
@@ -34,6 +34,8 @@ ticks at number (role ∷ roles) =
 unfoldable pub issues_of : List Role → Command → List Output
 issues_of all (Tick to) = ticks to 0 all
 issues_of all (Set node pair) = To (number_of (is_store_of node) 0 all) (item.Set pair) ∷ []
+issues_of all (Sync node link) = To (number_of (is_store_of node) 0 all) (item.Sync link) ∷ []
+issues_of all (Restart node) = To (number_of (is_store_of node) 0 all) item.Restart ∷ []
 issues_of all (Up link) = To (number_of (is_link link) 0 all) item.Up ∷ []
 issues_of all (Down link) = To (number_of (is_link link) 0 all) item.Down ∷ []
 issues_of all (Script link from acts) = To (number_of (is_link link) 0 all) (item.Script from acts) ∷ []

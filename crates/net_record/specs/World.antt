@@ -1,4 +1,4 @@
-use Rattle.std.specs.Prelude.{ℕ, ◌+◌, max, List, [], ◌∷◌, ◌++◌, length, map, Option, Some, None, Bool, true, false, ◌&&◌, ◌==◌, if◌then◌else◌, slice_get, slice_set, slice_index_or, replicate}
+use Rattle.std.specs.Prelude.{ℕ, ◌+◌, max, List, [], ◌∷◌, ◌++◌, length, drop, map, Option, Some, None, Bool, true, false, ◌&&◌, ◌==◌, if◌then◌else◌, slice_get, slice_set, slice_index_or, replicate}
 use Rattle.std.specs.List.{list_all, flat_map}
 use Rattle.or_base.specs.declared.item.Item.{Item}
 use Rattle.or_base.specs.declared.item.Stamped.{Stamped}
@@ -37,7 +37,7 @@ new_part (Node DeskRole node) = Desk
 new_part (LinkRole link a b) = Link (new_link link a b)
 
 abbrev pub new_actor : Role → ActorState
-new_actor role = record { part = new_part role; clock = 0 }
+new_actor role = record { part = new_part role; clock = 0; told = 0 }
 
 -- the world of these actors before anything is done
 abbrev pub world_of : List Role → WorldState
@@ -61,7 +61,7 @@ next_stamp actor s = max s.stamp actor.clock + 1
 
 -- an actor after its turn with an item
 unfoldable pub actor_after : ActorState → Stamped → ActorState
-actor_after actor s = record { part = (part_step actor.part s.item).0; clock = next_stamp actor s }
+actor_after actor s = record { part = (part_step actor.part s.item).0; clock = next_stamp actor s; told = actor.told }
 
 -- what an actor sends in its turn with an item
 unfoldable pub outputs_of : ActorState → Item → List Output
@@ -138,24 +138,32 @@ abbrev pub greatest_clock : List ActorState → ℕ
 greatest_clock [] = 0
 greatest_clock (actor ∷ actors) = max actor.clock (greatest_clock actors)
 
--- what a settle tells of an actor: of a store the length of its journal and its count of stale messages. No full sync
--- and no route is made yet.
-abbrev pub mark_of : Part → List NodeMark
-mark_of Driver = []
-mark_of Desk = []
-mark_of (Link s) = []
-mark_of (Store s) =
-    record { entries = length s.journal; stale = s.stale; syncs = []; routes = []; fib_dirty = false; fib_routes = 0 } ∷ []
+-- What a settle tells of an actor that told of so many finished full syncs before: of a store the length of its journal, its
+-- count of stale messages, and the full syncs that it started and that were finished since then. No route is made yet.
+abbrev pub mark_of : Part → ℕ → List NodeMark
+mark_of Driver told = []
+mark_of Desk told = []
+mark_of (Link s) told = []
+mark_of (Store s) told =
+    record { entries = length s.journal; stale = s.stale; syncs = drop told s.done; routes = []; fib_dirty = false; fib_routes = 0 } ∷ []
 
 abbrev pub marks_of : List ActorState → List NodeMark
-marks_of actors = flat_map (λ actor. mark_of actor.part) actors
+marks_of actors = flat_map (λ actor. mark_of actor.part actor.told) actors
 
 -- what a settle at a moment tells; no command that runs asks, so there are no answers
 abbrev pub settle_done : ℕ → WorldState → SettleDone
 settle_done moment w = record { turns = length w.turns; moment = moment; nodes = marks_of w.actors; answers = [] }
 
-abbrev pub with_clock : ℕ → ActorState → ActorState
-with_clock clock actor = record { part = actor.part; clock = clock }
+-- how many full syncs that it started were finished, where it is a store
+abbrev pub finished_by : Part → ℕ
+finished_by Driver = 0
+finished_by Desk = 0
+finished_by (Link s) = 0
+finished_by (Store s) = length s.done
+
+-- an actor after a settle, which sets its clock and tells of all full syncs that it finished
+abbrev pub settled_actor : ℕ → ActorState → ActorState
+settled_actor clock actor = record { part = actor.part; clock = clock; told = finished_by actor.part }
 
 -- a phase ends at a moment: the settle is recorded, and every clock becomes one more than the greatest
 unfoldable pub settled : ℕ → WorldState → WorldState
@@ -163,7 +171,7 @@ settled moment w =
     record {
       wires = w.wires;
       lanes = w.lanes;
-      actors = map (with_clock (greatest_clock w.actors + 1)) w.actors;
+      actors = map (settled_actor (greatest_clock w.actors + 1)) w.actors;
       turns = w.turns;
       settles = w.settles ++ settle_done moment w ∷ [];
     }

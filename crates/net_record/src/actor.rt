@@ -6,11 +6,13 @@ use or_actor::{Outbox, Output};
 use or_base::{NoMemory, Stamped};
 use std::alloc::Global;
 
-/// An actor: its module, and its clock, which is the stamp of its last turn or what the last settle made of it.
+/// An actor: its module; its clock, which is the stamp of its last turn or what the last settle made of it; and of how many
+/// finished full syncs settles have told, where it is a store.
 #[derive(Drop)]
 pub struct ActorState {
     pub part: Part,
     pub clock: u64,
+    pub told: u64,
 }
 
 /// What a turn sends, in order, and its stamp.
@@ -22,7 +24,7 @@ pub struct Sent {
 
 impl ActorState {
     ghost use Rattle.or_actor.specs.Fits.{has_small_link, have_small_links};
-    ghost use Rattle.net_record.specs.World.{new_actor, actor_after, outputs_of, next_stamp};
+    ghost use Rattle.net_record.specs.World.{new_actor, actor_after, outputs_of, next_stamp, settled_actor};
     ghost use Rattle.net_record.specs.Small.{HasSmallNumber};
 
     /// An actor as it starts.
@@ -33,6 +35,7 @@ impl ActorState {
         Ok(ActorState {
             part: Part::new(alloc, role)?,
             clock: 0,
+            told: 0,
         })
     }
 
@@ -56,5 +59,13 @@ impl ActorState {
             stamp,
             outputs: out.into_outputs(),
         })
+    }
+
+    /// A settle sets its clock, and tells of all full syncs that it finished.
+    pub fn settle(&mut self, clock: u64)
+        ensures { self.new ≡ settled_actor clock self.old }
+    {
+        self.told = self.part.finished();
+        self.clock = clock;
     }
 }

@@ -22,7 +22,7 @@ pub enum Part {
 
 impl Part {
     ghost use Rattle.or_actor.specs.Fits.{has_small_link, have_small_links};
-    ghost use Rattle.net_record.specs.World.{new_part, part_step};
+    ghost use Rattle.net_record.specs.World.{new_part, finished_by, part_step};
     ghost use Rattle.net_record.specs.Small.{HasSmallNumber};
 
     /// The module of an actor as it starts.
@@ -43,6 +43,16 @@ impl Part {
             Role::Link { link, a, b } => {
                 Ok(Part::Link(LinkModule::new(alloc, *link, a.copied()?, b.copied()?)))
             }
+        }
+    }
+
+    /// How many full syncs that it started were finished, where it is a store. It takes no memory.
+    pub fn finished(&self) -> u64
+        ensures { result ≡ finished_by self.now }
+    {
+        match self {
+            Part::Store(store) => store.done().len() as u64,
+            _other => 0,
         }
     }
 

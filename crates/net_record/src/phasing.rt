@@ -2,6 +2,7 @@ ghost use Rattle.std.specs.Prelude.{◌≡◌, ◌≤◌, ◌<◌, ◌^◌, ◌+
 ghost use Rattle.or_base.specs.declared.item.Item.TheVariants.{Tick};
 ghost use Rattle.or_actor.specs.declared.output.Output.TheVariants.{To};
 ghost use Rattle.or_actor.specs.Fits.{has_small_link, have_small_links};
+ghost use Rattle.net_scenario.specs.Small.{NamesSmallLink};
 ghost use Rattle.net_record.specs.Roles.{roles, number_of, is_store_of, is_link};
 ghost use Rattle.net_record.specs.Phases.{ups, takes_ticks, ticks, issues_of, moment_after, phases_from, phases};
 ghost use Rattle.net_record.specs.Small.{IssuesSmallLinks};
@@ -134,7 +135,8 @@ fn add_to(issues: &mut Vec<Output>, lane: u32, item: Item) -> Result<(), NoMemor
 /// Adds what the driver sends for a command.
 #[tactic(auto, unfolding(crate::specs::Phases::issues_of))]
 fn add_issues(issues: &mut Vec<Output>, all: &[Role], command: &Command) -> Result<(), NoMemory>
-    requires { length all.now ≤ 385 }
+    requires few { length all.now ≤ 385 }
+    requires small { NamesSmallLink command.now }
     ensures added { OnOk result (issues.new.items ≡ issues.old.items ++ issues_of all.now command.now) }
     ensures small { IsTrue (have_small_links issues.old.items) → OnOk result (IsTrue (have_small_links issues.new.items)) }
 {
@@ -144,6 +146,10 @@ fn add_issues(issues: &mut Vec<Output>, all: &[Role], command: &Command) -> Resu
             let pair = pair.copied()?;
             add_to(issues, store_number(all, node), Item::Set { pair })?;
         }
+        Command::Sync { node, link } => {
+            add_to(issues, store_number(all, node), Item::Sync { link: *link })?;
+        }
+        Command::Restart { node } => add_to(issues, store_number(all, node), Item::Restart)?,
         Command::Up { link } => add_to(issues, link_number(all, *link), Item::Up)?,
         Command::Down { link } => add_to(issues, link_number(all, *link), Item::Down)?,
         Command::Script { link, from, acts } => {
@@ -176,6 +182,7 @@ fn phases_from(
 ) -> Result<Vec<Phase>, NoMemory>
     requires few { length all.now ≤ 385 }
     requires small { IsTrue (have_small_links first.items) }
+    requires named { All NamesSmallLink commands.now }
     ensures phases { IfOk result (λ found. found.items ≡ phases_from all.now 0 first.items commands.now) }
     ensures small { IfOk result (λ found. All IssuesSmallLinks found.items) }
 {

@@ -1,12 +1,23 @@
-ghost use Rattle.std.specs.Prelude.{◌≡◌, IfOk};
+ghost use Rattle.std.specs.Prelude.{◌≡◌, drop, IfOk};
 ghost use Rattle.net_record.specs.World.{marks_of};
 ghost use Rattle.net_record.specs.Records.{journals_of};
 
 use crate::actor::ActorState;
 use crate::part::Part;
 use crate::record::NodeMark;
-use or_base::{JournalEntry, NoMemory, Seq, copied_items};
+use or_base::{JournalEntry, NoMemory, Seq, SyncDone, copied_items};
 use std::alloc::Global;
+
+/// The full syncs from this number on.
+fn syncs_from(alloc: Global, done: &[SyncDone], told: u64) -> Result<Vec<SyncDone>, NoMemory>
+    ensures { IfOk result (λ syncs. syncs.items ≡ drop told done.now) }
+{
+    if (done.len() as u64) < told {
+        return Ok(Vec::new(alloc));
+    }
+    let syncs = copied_items(alloc, &done[told as usize..])?;
+    Ok(syncs)
+}
 
 /// What a settle tells of the stores among the actors, in order.
 pub fn marks_of(alloc: Global, actors: &[ActorState]) -> Result<Vec<NodeMark>, NoMemory>
@@ -18,7 +29,7 @@ pub fn marks_of(alloc: Global, actors: &[ActorState]) -> Result<Vec<NodeMark>, N
             marks.push(NodeMark {
                 entries: store.table().journal().len() as u64,
                 stale: store.stale(),
-                syncs: Seq::from_vec(Vec::new(alloc)),
+                syncs: Seq::from_vec(syncs_from(alloc, store.done(), actor.told)?),
                 routes: Seq::from_vec(Vec::new(alloc)),
                 fib_dirty: false,
                 fib_routes: 0,

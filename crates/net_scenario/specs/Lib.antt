@@ -1,6 +1,7 @@
 pub mod Scenario
 pub mod Limits
 pub mod Sound
+pub mod Small
 pub mod Seen
 pub mod Conditions
 pub mod Statement

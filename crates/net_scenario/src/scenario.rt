@@ -1,4 +1,5 @@
-ghost use Rattle.std.specs.Prelude.{◌≡◌, ◌≤◌, length};
+ghost use Rattle.std.specs.Prelude.{◌≡◌, ◌≤◌, All, length};
+ghost use Rattle.net_scenario.specs.Small.{NamesSmallLink};
 
 use crate::command::Command;
 use crate::declared::{LinkDecl, NodeDecl};
@@ -51,9 +52,10 @@ impl Scenario {
         self.links.as_slice()
     }
 
-    /// The commands, in order.
+    /// The commands, in order. A link of a node that one names has a number below 2^31.
     pub fn commands(&self) -> &[Command]
-        ensures { result.now ≡ self.now.commands }
+        ensures commands { result.now ≡ self.now.commands }
+        ensures small { All NamesSmallLink result.now }
     {
         self.commands.as_slice()
     }

@@ -11,7 +11,7 @@ use Rattle.net_record.specs.declared.wire.Wire.{Wire}
 use Rattle.net_record.specs.declared.actor.ActorState.{ActorState}
 use Rattle.net_record.specs.declared.record.SettleDone.{SettleDone}
 use Rattle.net_record.specs.Wired.{IsReadBelow, IsWired}
-use Rattle.net_record.specs.World.{WorldState, is_empty, new_actor, actor_after, next_stamp, driver_clock, greatest_clock, with_clock}
+use Rattle.net_record.specs.World.{WorldState, is_empty, new_actor, actor_after, next_stamp, driver_clock, greatest_clock, settled_actor}
 use Rattle.net_world.specs.Sound.{IsSoundItem, IsSoundLane, IsClockedBelow, StaySound, IsSound, done_in}
 
 -- what is sound up to a bound is so up to a greater one
@@ -154,10 +154,10 @@ greatest_below n (actor ∷ actors) all =
 
 -- the world after a settle
 pub sound_settled : (w : WorldState) (clock : ℕ) (actors : List ActorState) (settles : List SettleDone) → IsSound w
-    → clock ≡ greatest_clock w.actors + 1 → actors ≡ map (with_clock clock) w.actors → length settles ≡ length w.settles + 1
+    → clock ≡ greatest_clock w.actors + 1 → actors ≡ map (settled_actor clock) w.actors → length settles ≡ length w.settles + 1
     → IsSound (record { wires = w.wires; lanes = w.lanes; actors = actors; turns = w.turns; settles = settles })
 sound_settled w clock actors settles sound is set_to n =
-    sound_with w (done_in w + 1) w.lanes actors w.turns settles sound refl (ap length set_to ∙ length-map w.actors (with_clock clock)) (omega arith)
+    sound_with w (done_in w + 1) w.lanes actors w.turns settles sound refl (ap length set_to ∙ length-map w.actors (settled_actor clock)) (omega arith)
     (lanes_weaker (done_in w) (done_in w + 1) w.lanes (omega arith) sound.items)
-    (All-same (IsClockedBelow (done_in w + 1)) actors (map (with_clock clock) w.actors) set_to
-    (All-map (IsClockedBelow (done_in w + 1)) (with_clock clock) w.actors (λ k d h. omega (arith, is, greatest_below (done_in w) w.actors sound.clocks))))
+    (All-same (IsClockedBelow (done_in w + 1)) actors (map (settled_actor clock) w.actors) set_to
+    (All-map (IsClockedBelow (done_in w + 1)) (settled_actor clock) w.actors (λ k d h. omega (arith, is, greatest_below (done_in w) w.actors sound.clocks))))

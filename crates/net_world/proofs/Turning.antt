@@ -9,7 +9,7 @@ use Rattle.net_record.specs.declared.wire.Wire.{Wire}
 use Rattle.net_record.specs.declared.actor.ActorState.{ActorState}
 use Rattle.net_record.specs.declared.record.NodeMark.{NodeMark}
 use Rattle.net_record.specs.declared.record.SettleDone.{SettleDone}
-use Rattle.net_record.specs.World.{WorldState, turn, turn_of, waiting, is_empty, actor_after, next_stamp, outputs_of, delivered, driver_clock, greatest_clock, with_clock, marks_of, issued, settled}
+use Rattle.net_record.specs.World.{WorldState, turn, turn_of, waiting, is_empty, actor_after, next_stamp, outputs_of, delivered, driver_clock, greatest_clock, settled_actor, marks_of, issued, settled}
 
 turn_none : (w : WorldState) (lane at : ℕ) → waiting w lane ≡ [] → turn w lane at ≡ w
 unfolding turn
@@ -54,7 +54,7 @@ issue_made w stamp issues lanes is put = rw (put, is) refl
 
 -- a settle was done
 pub settle_made : (w : WorldState) (moment clock : ℕ) (nodes : List NodeMark) (actors : List ActorState) (settles : List SettleDone)
-    → clock ≡ greatest_clock w.actors + 1 → nodes ≡ marks_of w.actors → actors ≡ map (with_clock clock) w.actors
+    → clock ≡ greatest_clock w.actors + 1 → nodes ≡ marks_of w.actors → actors ≡ map (settled_actor clock) w.actors
     → settles ≡ w.settles ++ record { turns = length w.turns; moment = moment; nodes = nodes; answers = [] } ∷ []
     → record { wires = w.wires; lanes = w.lanes; actors = actors; turns = w.turns; settles = settles } ≡ settled moment w
 unfolding settled

@@ -1,5 +1,5 @@
 ghost use Rattle.std.specs.Prelude.{◌≡◌, map};
-ghost use Rattle.net_record.specs.World.{driver_clock, greatest_clock, with_clock};
+ghost use Rattle.net_record.specs.World.{driver_clock, greatest_clock, settled_actor};
 
 use net_record::ActorState;
 
@@ -24,11 +24,11 @@ pub fn greatest_clock(actors: &[ActorState]) -> u64
     greatest
 }
 
-/// Sets the clock of each actor.
+/// A settle: it sets the clock of each actor, and tells of the full syncs that each finished.
 pub fn set_clocks(actors: &mut Vec<ActorState>, clock: u64)
-    ensures { actors.new.items ≡ map (with_clock clock) actors.old.items }
+    ensures { actors.new.items ≡ map (settled_actor clock) actors.old.items }
 {
     for number in 0..actors.len() {
-        actors[number].clock = clock;
+        actors[number].settle(clock);
     }
 }

@@ -7,7 +7,7 @@ use Rattle.lab_words.specs.declared.words.Words.{Words}
 use Rattle.or_base.specs.declared.kind.Kind.{Kind}
 use Rattle.or_base.specs.declared.kind.Kind.TheVariants.{Stores, Full}
 use Rattle.net_scenario.specs.declared.command.Command.{Command}
-use Rattle.net_scenario.specs.declared.command.Command.TheVariants.{Settle, Tick, Set, Up, Down, Script}
+use Rattle.net_scenario.specs.declared.command.Command.TheVariants.{Settle, Tick, Set, Sync, Restart, Up, Down, Script}
 use Rattle.net_scenario.specs.Scenario.{Laboratory}
 
 -- the program has the mode: it replays, and does nothing else
@@ -24,6 +24,8 @@ abbrev pub is_command_built : Command → Bool
 is_command_built (Settle rounds show) = true
 is_command_built (Tick to) = true
 is_command_built (Set node pair) = true
+is_command_built (Sync node link) = true
+is_command_built (Restart node) = true
 is_command_built (Up link) = true
 is_command_built (Down link) = true
 is_command_built (Script link from acts) = true

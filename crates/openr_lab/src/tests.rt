@@ -30,6 +30,9 @@ const SET_AT_A: &str = r#"{"do":"set","node":"a","key":"x","version":1,"hex":"01
 const SET_AT_B: &str = r#"{"do":"set","node":"b","key":"x","version":1,"hex":"00"}
 "#;
 
+const SYNC_AT_A: &str = r#"{"do":"sync","node":"a","link":0}
+"#;
+
 const SILENT: &str = r#"{"do":"settle","show":"none"}
 "#;
 
@@ -236,6 +239,79 @@ const CASES: &[Case] = &[
         output: "settle 1 moment 0\nsettle 2 moment 0\nstore a entries 1 stale 0\nkey x 1 a 01 0 -\nstore b entries 0 stale 0\nsettle 3 moment 0\nstore a entries 2 stale 0\nkey x 2 a 02 0 -\nstore b entries 1 stale 0\nkey x 2 a 02 0 -\nend\n",
     },
     Case {
+        name: "a full sync finds a store empty, and the next one doesn't",
+        words: &["replay"],
+        input: &[
+            STORES,
+            r#"{"do":"script","link":0,"from":"a","acts":["drop"]}
+"#,
+            SILENT,
+            SET_AT_A,
+            SILENT,
+            SYNC_AT_A,
+            SHOWN,
+            SYNC_AT_A,
+            SHOWN,
+        ],
+        failing_read: 0,
+        failing_write: 0,
+        status: 0,
+        has_record: true,
+        output: "settle 1 moment 0\nsettle 2 moment 0\nsettle 3 moment 0\nsettle 4 moment 0\nstore a entries 1 stale 0\nkey x 1 a 01 0 -\nsync 0 2 1 0 0\nstore b entries 1 stale 0\nkey x 1 a 01 0 -\nsettle 5 moment 0\nstore a entries 1 stale 0\nkey x 1 a 01 0 -\nsync 0 3 1 1 0\nstore b entries 1 stale 0\nkey x 1 a 01 0 -\nend\n",
+    },
+    Case {
+        name: "a reply that comes twice is stale the second time",
+        words: &["replay"],
+        input: &[
+            STORES,
+            r#"{"do":"script","link":0,"from":"a","acts":["twice"]}
+"#,
+            SILENT,
+            SYNC_AT_A,
+            SHOWN,
+        ],
+        failing_read: 0,
+        failing_write: 0,
+        status: 0,
+        has_record: true,
+        output: "settle 1 moment 0\nsettle 2 moment 0\nsettle 3 moment 0\nstore a entries 0 stale 1\nsync 0 2 0 0 0\nstore b entries 0 stale 0\nend\n",
+    },
+    Case {
+        name: "a value with one millisecond left is withheld from a full sync",
+        words: &["replay"],
+        input: &[
+            STORES,
+            r#"{"do":"set","node":"a","key":"x","version":1,"hex":"01","ttl":1}
+"#,
+            SILENT,
+            SYNC_AT_A,
+            SHOWN,
+        ],
+        failing_read: 0,
+        failing_write: 0,
+        status: 0,
+        has_record: true,
+        output: "settle 1 moment 0\nsettle 2 moment 0\nsettle 3 moment 0\nstore a entries 1 stale 0\nkey x 1 a 01 0 1\nsync 0 2 1 0 1\nstore b entries 0 stale 0\nend\n",
+    },
+    Case {
+        name: "a store that restarts gets back what it held, and the reply to its older session is stale",
+        words: &["replay"],
+        input: &[
+            STORES,
+            SET_AT_A,
+            SILENT,
+            SYNC_AT_A,
+            r#"{"do":"restart","node":"a"}
+"#,
+            SHOWN,
+        ],
+        failing_read: 0,
+        failing_write: 0,
+        status: 0,
+        has_record: true,
+        output: "settle 1 moment 0\nsettle 2 moment 0\nsettle 3 moment 0\nstore a entries 3 stale 1\nkey x 1 a 01 0 -\nsync 0 3 2 1 0\nstore b entries 1 stale 0\nkey x 1 a 01 0 -\nend\n",
+    },
+    Case {
         name: "a store passes on what is flooded to it",
         words: &["replay"],
         input: &[LINE_OF_THREE, SET_AT_A, SHOWN],
@@ -427,14 +503,6 @@ const UNBUILT: &[&str] = &[
     r#"{"do":"lab","kind":"stores"}
 {"do":"node","name":"a"}
 {"do":"disown","node":"a","key":"x"}"#,
-    r#"{"do":"lab","kind":"stores"}
-{"do":"node","name":"a"}
-{"do":"node","name":"b"}
-{"do":"link","a":"a","b":"b"}
-{"do":"sync","node":"a","link":0}"#,
-    r#"{"do":"lab","kind":"stores"}
-{"do":"node","name":"a"}
-{"do":"restart","node":"a"}"#,
     r#"{"do":"lab","kind":"stores"}
 {"do":"node","name":"a"}
 {"do":"get","node":"a","key":"x"}"#,
