@@ -20,8 +20,8 @@ def link(a, b, number=0):
     return '{"do":"link","a":"n%d","b":"n%d","aif":"r%d-%d","bif":"l%d-%d"}' % (a, b, number, b, number, a)
 
 
-def a_set(node, key, version):
-    return '{"do":"set","node":"n%d","key":"key-%d","version":%d,"hex":"%s"}' % (node, key, version, "5a" * 16)
+def a_set(node, key, version, size=16):
+    return '{"do":"set","node":"n%d","key":"key-%d","version":%d,"hex":"%s"}' % (node, key, version, "5a" * size)
 
 
 def sets(count, keys, a_settle):
@@ -73,7 +73,7 @@ def show(name, lines):
     data = ("\n".join(lines) + "\n").encode()
     turns = run(data, ("--trace", "replay"))[3].count(b'"do":"turn"')
     seconds, memory, status, _ = best(data)
-    print("%-60s %7d turns %7.3f s %9d a second %6.2f us a turn %4d MB status %d" % (
+    print("%-62s %7d turns %7.3f s %9d a second %6.2f us a turn %4d MB status %d" % (
         name, turns, seconds, turns / seconds, seconds * 1e6 / max(turns, 1), memory, status), flush=True)
 
 
@@ -92,4 +92,5 @@ def main():
             show("line of 64, %d sets on %d key%s" % (count, min(keys, count), "s" * (keys > 1)), line_of(64) + sets(count, keys, 50))
 
 
-main()
+if __name__ == "__main__":
+    main()
