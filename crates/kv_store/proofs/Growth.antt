@@ -1,5 +1,6 @@
 -- A journal only grows.
-use Rattle.std.proofs.Common.{◌≡◌, ℕ, ◌+◌, ◌≤◌, List, [], ◌∷◌, ◌++◌, length, Bool, true, false, Result, Ok, Err, if◌then◌else◌, arith, length-append, map}
+use Rattle.std.proofs.Common.{ℕ, ◌≤◌, List, [], ◌∷◌, ◌++◌, length, Bool, true, false, Result, Ok, Err, if◌then◌else◌, refl, sym, ap, ◌∙◌, append_assoc, arith, length-append, map}
+use Rattle.std.proofs.lemmas.List.{append-nil}
 use Rattle.or_base.specs.declared.entry.JournalEntry.{JournalEntry}
 use Rattle.or_base.specs.declared.value.Pair.{Pair}
 use Rattle.or_base.specs.declared.origin.Origin.{Origin}
@@ -16,51 +17,72 @@ use Rattle.kv_sync.specs.declared.session.Session.{Session}
 use Rattle.kv_sync.specs.declared.session.Stale.{Stale}
 use Rattle.kv_sync.specs.declared.session.SyncPhase.TheVariants.{Dumped, Pushed}
 use Rattle.kv_sync.specs.Sessions.{current}
-use Rattle.kv_store.specs.Store.{StoreState, offer_all, reply_taken, ack_taken, message_input, input_step}
+use Rattle.kv_store.specs.Store.{StoreState, offer_all, reply_taken, ack_taken, message_input, input_step, store_step}
+use Rattle.kv_store.specs.Growth.{IsFront, JournalsGrow}
 
-grown : {X : Type 0} (xs ys : List X) → length xs ≤ length (xs ++ ys)
-grown xs ys = let len : length (xs ++ ys) ≡ length xs + length ys = length-append xs ys in omega (arith, len)
+-- a journal is the front of itself, and of itself with more; a front of a front is a front
+pub front_same : (journal : List JournalEntry) → IsFront journal journal
+front_same journal = record { more = []; is = sym (append-nil journal) }
 
-grown_if : {X : Type 0} (test : Bool) (xs ys : List X) → length xs ≤ length ys → length xs ≤ length (if test then ys else xs)
-grown_if true xs ys h = h
-grown_if false xs ys h = omega arith
+pub front_with : (journal more : List JournalEntry) → IsFront journal (journal ++ more)
+front_with journal more = record { more = more; is = refl }
 
-offer_grows : (journal : List JournalEntry) (pair : Pair) (now : ℕ) (origin : Origin) → length journal ≤ length (offer journal pair now origin)
+pub front_then : (first second third : List JournalEntry) → IsFront first second → IsFront second third → IsFront first third
+front_then first second third f g = record {
+  more = f.more ++ g.more;
+  is = g.is ∙ ap (λ js. js ++ g.more) f.is ∙ append_assoc first f.more g.more;
+}
+
+front_if : (test : Bool) (first second : List JournalEntry) → IsFront first second → IsFront first (if test then second else first)
+front_if true first second f = f
+front_if false first second f = front_same first
+
+-- it is no longer than the other
+pub front_shorter : (front whole : List JournalEntry) → IsFront front whole → length front ≤ length whole
+front_shorter front whole f = omega (arith, ap length f.is, length-append front f.more)
+
+offer_grows : (journal : List JournalEntry) (pair : Pair) (now : ℕ) (origin : Origin) → IsFront journal (offer journal pair now origin)
 offer_grows journal pair now origin =
-    grown_if (is_taken journal pair) journal (journal ++ Merged pair now origin ∷ []) (grown journal (Merged pair now origin ∷ []))
+    front_if (is_taken journal pair) journal (journal ++ Merged pair now origin ∷ []) (front_with journal (Merged pair now origin ∷ []))
 
-offers_grow : (journal : List JournalEntry) (pairs : List Pair) (now : ℕ) (origin : Origin) → length journal ≤ length (offer_all journal pairs now origin)
-offers_grow journal [] now origin = omega arith
+offers_grow : (journal : List JournalEntry) (pairs : List Pair) (now : ℕ) (origin : Origin) → IsFront journal (offer_all journal pairs now origin)
+offers_grow journal [] now origin = front_same journal
 offers_grow journal (pair ∷ pairs) now origin =
-    let one = offer_grows journal pair now origin in
-    let others = offers_grow (offer journal pair now origin) pairs now origin in
-    omega (arith, one, others)
+    front_then journal (offer journal pair now origin) (offer_all (offer journal pair now origin) pairs now origin)
+    (offer_grows journal pair now origin) (offers_grow (offer journal pair now origin) pairs now origin)
 
 flood_grows : (s : StoreState) (test : Bool) (pairs : List Pair)
-    → length s.journal ≤ length (if test then s else record s { journal = offer_all s.journal pairs s.moment Flooded }).journal
-flood_grows s true pairs = omega arith
+    → IsFront s.journal (if test then s else record s { journal = offer_all s.journal pairs s.moment Flooded }).journal
+flood_grows s true pairs = front_same s.journal
 flood_grows s false pairs = offers_grow s.journal pairs s.moment Flooded
 
-reply_grows : (s : StoreState) (link b0 : ℕ) (pairs : List Pair) (withheld : ℕ) (running : Result Session Stale) → length s.journal ≤ length (reply_taken s link b0 pairs withheld running).journal
+reply_grows : (s : StoreState) (link b0 : ℕ) (pairs : List Pair) (withheld : ℕ) (running : Result Session Stale) → IsFront s.journal (reply_taken s link b0 pairs withheld running).journal
 reply_grows s link b0 pairs withheld (Ok session) = offers_grow s.journal pairs s.moment SyncReply
-reply_grows s link b0 pairs withheld (Err stale) = omega arith
+reply_grows s link b0 pairs withheld (Err stale) = front_same s.journal
 
-ack_grows : (s : StoreState) (link : ℕ) (running : Result Session Stale) → length s.journal ≤ length (ack_taken s link running).journal
-ack_grows s link (Ok session) = omega arith
-ack_grows s link (Err stale) = omega arith
+ack_grows : (s : StoreState) (link : ℕ) (running : Result Session Stale) → IsFront s.journal (ack_taken s link running).journal
+ack_grows s link (Ok session) = front_same s.journal
+ack_grows s link (Err stale) = front_same s.journal
 
-message_grows : (s : StoreState) (link : ℕ) (msg : Msg) → length s.journal ≤ length (message_input s link msg).journal
+message_grows : (s : StoreState) (link : ℕ) (msg : Msg) → IsFront s.journal (message_input s link msg).journal
 message_grows s link (Flood passed pairs) = flood_grows s (is_among s.me passed) pairs
 message_grows s link (Reply session b0 pairs wanted withheld) = reply_grows s link b0 pairs withheld (current s.sessions link session Dumped)
 message_grows s link (Push session pairs) = offers_grow s.journal pairs s.moment SyncPush
 message_grows s link (Ack session) = ack_grows s link (current s.sessions link session Pushed)
-message_grows s link _ = omega arith
+message_grows s link _ = front_same s.journal
 
--- a turn's item only appends
-pub journal_grows : (s : StoreState) (item : Item) → length s.journal ≤ length (input_step s item).journal
+input_grows : (s : StoreState) (item : Item) → IsFront s.journal (input_step s item).journal
 unfolding input_step
-journal_grows s (Tick at) = grown s.journal (map (λ d. Expired d.key at) (due s.journal at))
-journal_grows s (Set pair) = offer_grows s.journal pair s.moment Local
-journal_grows s Restart = grown s.journal (Cleared s.moment ∷ [])
-journal_grows s (Net link from msg) = message_grows s link msg
-journal_grows s _ = omega arith
+input_grows s (Tick at) = front_with s.journal (map (λ d. Expired d.key at) (due s.journal at))
+input_grows s (Set pair) = offer_grows s.journal pair s.moment Local
+input_grows s Restart = front_with s.journal (Cleared s.moment ∷ [])
+input_grows s (Net link from msg) = message_grows s link msg
+input_grows s _ = front_same s.journal
+
+-- what the item changes leaves the journal as long as it was, or longer
+pub journal_grows : (s : StoreState) (item : Item) → length s.journal ≤ length (input_step s item).journal
+journal_grows s item = front_shorter s.journal (input_step s item).journal (input_grows s item)
+
+pub journals_grow : JournalsGrow
+unfolding store_step
+journals_grow s item = input_grows s item

@@ -13,6 +13,8 @@
 //! syncs), `floods` (what a turn floods), `store` (the module). Owned keys aren't built yet: such an item changes nothing.
 #![tactic(auto)]
 
+ghost use Rattle.kv_store.specs.Growth.{JournalsGrow};
+
 mod answers;
 mod due;
 mod floods;
@@ -20,3 +22,8 @@ mod offers;
 mod store;
 
 pub use store::KvModule;
+
+/// A turn only adds to a store's journal.
+pub fn journals_grow()
+    ensures { JournalsGrow }
+{}

@@ -16,7 +16,7 @@ fn length_bytes(bytes: &[u8]) -> [u8; 4]
 }
 
 /// The first 8 bytes, as a number with the high byte first.
-fn first_number(digest: &[u8; 32]) -> u64
+pub(crate) fn first_number(digest: &[u8; 32]) -> u64
     ensures { result ≡ from_be_bytes w64 (take 8 digest.now) }
 {
     u64::from_be_bytes([

@@ -1,5 +1,7 @@
+use crate::hash::first_number;
 use crate::hash_of;
 use or_base::{Bytes, KvValue, Name};
+use sha2::{Digest, Sha256};
 use std::alloc::{AllocError, Global};
 use std::test::Fail;
 
@@ -31,6 +33,33 @@ const CASES: [(u64, &str, &[u8], u64); 7] = [
     (2, "a", &[1], 0x0b9b_2922_1448_66e1),
     (u64::MAX, "node", &[255; 64], 0x4a74_b1db_9f2f_9034),
 ];
+
+/// Messages of one block and of two from the examples of FIPS 180-4, and the two shortest of NIST's test vectors for it, with
+/// the first 8 bytes of the digest stated there.
+const MESSAGES: [(&[u8], u64); 4] = [
+    (b"abc", 0xba78_16bf_8f01_cfea),
+    (
+        b"abcdbcdecdefdefgefghfghighijhijkijkljklmklmnlmnomnopnopq",
+        0x248d_6a61_d206_38b8,
+    ),
+    (&[], 0xe3b0_c442_98fc_1c14),
+    (&[0xd3], 0x2896_9cdf_a74a_12c8),
+];
+
+#[test]
+fn public_messages_have_their_stated_hash(rt: HostRuntime) -> Result<(), Fail> {
+    for (message, want) in MESSAGES {
+        let mut whole = Sha256::new();
+        whole.update(message);
+        assert_eq!(rt; first_number(&whole.finalize()), want);
+        // The same in two pieces, as a value is hashed in pieces.
+        let mut pieces = Sha256::new();
+        pieces.update(&message[..message.len() / 2]);
+        pieces.update(&message[message.len() / 2..]);
+        assert_eq!(rt; first_number(&pieces.finalize()), want);
+    }
+    Ok(())
+}
 
 #[test]
 fn hashes_are_of_the_framing(rt: HostRuntime) -> Result<(), Fail> {

@@ -10,20 +10,23 @@ use Rattle.net_record.specs.declared.actor.ActorState.{ActorState}
 use Rattle.net_record.specs.Roles.{roles}
 use Rattle.net_record.specs.Wires.{wires}
 use Rattle.net_record.specs.Phases.{phases}
+use Rattle.net_record.specs.declared.lookup.Look.{Look}
+use Rattle.net_record.specs.Actors.{look}
+use Rattle.net_record.specs.Answers.{desks_asked, given}
 use Rattle.net_record.specs.World.{WorldState, waiting, turn, turn_of, turn_by, reader_of, is_empty, is_drained, issued, settled, settle_done, start}
 use Rattle.net_record.specs.Budget.{is_over}
-use Rattle.net_record.specs.Rounds.{Marked, turns_on, round_from, round, after_round, rounds_of, phase_of, settle_of, rounds_from, round_robin}
+use Rattle.net_record.specs.Rounds.{Marked, longest, turns_on, round_from, round, after_round, rounds_of, phase_of, settle_of, rounds_from, round_robin}
 use Rattle.net_record.proofs.RoundRuns.{goes_on, drained-or}
 use Rattle.net_record.specs.Ends.{SettledRoundsEndDrained}
 
-settles-turn_of : (w : WorldState) (lane at reader : ℕ) (s : Stamped) (others : List Stamped) (actor : ActorState) → (turn_of w lane at reader s others actor).settles ≡ w.settles
+settles-turn_of : (w : WorldState) (lane at reader : ℕ) (s : Stamped) (others : List Stamped) (actor : ActorState) (found : Look) → (turn_of w lane at reader s others actor found).settles ≡ w.settles
 unfolding turn_of
-settles-turn_of w lane at reader s others actor = refl
+settles-turn_of w lane at reader s others actor found = refl
 
 settles-turn_by : (w : WorldState) (lane at reader : ℕ) (items : List Stamped) (actor : Option ActorState) → (turn_by w lane at reader items actor).settles ≡ w.settles
 settles-turn_by w lane at reader [] actor = refl
 settles-turn_by w lane at reader (s ∷ others) None = refl
-settles-turn_by w lane at reader (s ∷ others) (Some actor) = settles-turn_of w lane at reader s others actor
+settles-turn_by w lane at reader (s ∷ others) (Some actor) = settles-turn_of w lane at reader s others actor (look w.actors reader actor.part at s.item)
 
 settles-turn : (w : WorldState) (lane at : ℕ) → (turn w lane at).settles ≡ w.settles
 unfolding turn
@@ -38,7 +41,7 @@ settles_within false w v e = e
 settles-turns_on : (w : WorldState) (lane count : ℕ) → (turns_on w lane count).settles ≡ w.settles
 settles-turns_on w lane zero = refl
 settles-turns_on w lane (suc count) =
-    settles_within (is_over w) w (turns_on (turn w lane 0) lane count) (settles-turns_on (turn w lane 0) lane count ∙ settles-turn w lane 0)
+    settles_within (is_over w) w (turns_on (turn w lane (longest w lane)) lane count) (settles-turns_on (turn w lane (longest w lane)) lane count ∙ settles-turn w lane (longest w lane))
 
 settles-round_from : (w : WorldState) (lane : ℕ) (counts : List ℕ) → (round_from w lane counts).settles ≡ w.settles
 settles-round_from w lane [] = refl
@@ -52,22 +55,22 @@ settles_if : (stop : Bool) (m n : Marked) → n.world.settles ≡ m.world.settle
 settles_if true m n e = refl
 settles_if false m n e = e
 
-settles-rounds_of : (m : Marked) (count : ℕ) → (rounds_of m count).world.settles ≡ m.world.settles
+pub settles-rounds_of : (m : Marked) (count : ℕ) → (rounds_of m count).world.settles ≡ m.world.settles
 settles-rounds_of m zero = refl
 settles-rounds_of m (suc count) =
     settles_if (is_drained m.world || is_over m.world) m (rounds_of (after_round m) count) (settles-rounds_of (after_round m) count ∙ settles-round m.world)
 
-settles-issued : (w : WorldState) (issues : List Output) → (issued w issues).settles ≡ w.settles
+pub settles-issued : (w : WorldState) (issues : List Output) → (issued w issues).settles ≡ w.settles
 unfolding issued
 settles-issued w issues = refl
 
-settles-settled : (moment : ℕ) (w : WorldState) → length (settled moment w).settles ≡ length w.settles + 1
+settles-settled : (moment : ℕ) (asked : List ℕ) (w : WorldState) → length (settled moment asked w).settles ≡ length w.settles + 1
 unfolding settled
-settles-settled moment w = length_push w.settles (settle_done moment w)
+settles-settled moment asked w = length_push w.settles (settle_done moment w (given (record { actors = w.actors; answers = [] }) asked).answers)
 
-drained-settled : (moment : ℕ) (w : WorldState) → is_drained (settled moment w) ≡ is_drained w
+drained-settled : (moment : ℕ) (asked : List ℕ) (w : WorldState) → is_drained (settled moment asked w) ≡ is_drained w
 unfolding settled
-drained-settled moment w = refl
+drained-settled moment asked w = refl
 
 -- a phase that settles leaves the world drained, with one settle more
 abbrev Ends : List Phase → Type 0
@@ -81,8 +84,8 @@ ends_phase : (phases : List Phase) → Ends phases → (number : ℕ) (before : 
     × (length (goes_on unsettled over number done (settle_of phase done) phases).last.world.settles ≡ before + suc (length phases))
 ends_phase phases others number before phase done false false e same settles =
     let drained = drained-or (is_over done.world) (is_drained done.world) e in
-    let end = others (number + 1) (settle_of phase done) (drained-settled phase.moment done.world ∙ drained) settles in
-    (end.0, omega (arith, end.1, settles-settled phase.moment done.world, same))
+    let end = others (number + 1) (settle_of phase done) (drained-settled phase.moment (desks_asked phase.issues) done.world ∙ drained) settles in
+    (end.0, omega (arith, end.1, settles-settled phase.moment (desks_asked phase.issues) done.world, same))
 ends_phase phases others number before phase done false true e same settles = cc settles
 ends_phase phases others number before phase done true over e same settles = cc settles
 

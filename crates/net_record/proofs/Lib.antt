@@ -2,8 +2,11 @@ pub mod Wired
 pub mod Delivered
 pub mod Weighing
 pub mod Issues
+pub mod Desks
 pub mod Turns
+pub mod Found
 pub mod RoundTurns
 pub mod RoundRuns
 pub mod Drained
+pub mod Grown
 pub mod Examples

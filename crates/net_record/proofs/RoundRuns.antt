@@ -1,5 +1,5 @@
 -- A run by rounds is a run under the schedule of its own turns.
-use Rattle.std.proofs.Common.{◌≡◌, ℕ, zero, suc, ◌+◌, List, [], ◌∷◌, ◌++◌, Bool, true, false, cond, ◌||◌, not, Some, None, Ok, length, map, get_or, ◌<◌, refl, sym, ◌∙◌, ap, subst}
+use Rattle.std.proofs.Common.{◌≡◌, ℕ, zero, suc, ◌+◌, List, [], ◌∷◌, ◌++◌, Bool, true, false, cond, ◌||◌, not, Some, None, Ok, length, map, get_or, ◌<◌, refl, sym, ◌∙◌, ap, subst, length-set}
 use Rattle.std.proofs.lemmas.List.{append-nil, length-map, length-replicate}
 use Rattle.or_actor.specs.declared.output.Output.{Output}
 use Rattle.net_scenario.specs.declared.schedule.Turn.{Turn}
@@ -9,14 +9,18 @@ use Rattle.net_record.specs.declared.phase.Phase.{Phase}
 use Rattle.net_record.specs.Roles.{roles}
 use Rattle.net_record.specs.Wires.{wires}
 use Rattle.net_record.specs.Phases.{phases}
-use Rattle.net_record.specs.World.{WorldState, world_of, start, new_actor, is_drained, issued, settled, driver_clock, settled_actor, greatest_clock}
+use Rattle.net_record.specs.declared.actor.ActorState.{ActorState}
+use Rattle.net_record.specs.Actors.{no_actor, new_actor, entries_of, settled_actors}
+use Rattle.net_record.specs.Answers.{Giving, actor_without, desks_asked, give, given}
+use Rattle.net_record.specs.World.{WorldState, world_of, start, is_drained, issued, settled, driver_clock, greatest_clock}
 use Rattle.net_record.specs.Budget.{is_over}
 use Rattle.net_record.specs.Rounds.{Marked, Ended, round, after_round, rounds_of, phase_of, settle_of, rounds_from, round_robin}
 use Rattle.net_record.specs.Run.{begun, advance, run_from, run, schedule_of, RoundsAreARun}
 use Rattle.net_record.specs.Wired.{IsReadBelow, IsWired}
 use Rattle.net_record.proofs.Wired.{readers_of_wires}
 use Rattle.net_record.proofs.Delivered.{length-delivered}
-use Rattle.net_record.proofs.RoundTurns.{then_round, advance-waits, round_runs, round_schedules, wired_round}
+use Rattle.net_record.proofs.Found.{find_start, find_issued, find_settled}
+use Rattle.net_record.proofs.RoundTurns.{IsReady, then_round, advance-waits, round_runs, round_schedules, ready_round}
 
 readers_among_as_many : (n m : ℕ) (ws : List Wire) → n ≡ m → ((k : ℕ) (d : Wire) → k < length ws → IsReadBelow n (get_or ws k d)) → (k : ℕ) (d : Wire) → k < length ws → IsReadBelow m (get_or ws k d)
 readers_among_as_many n m ws e h k d within = subst (λ j. IsReadBelow j (get_or ws k d)) e (h k d within)
@@ -34,12 +38,37 @@ wired_issued w issues wired = record {
   readers = wired.readers;
 }
 
-pub wired_settled : (moment : ℕ) (w : WorldState) → IsWired w → IsWired (settled moment w)
+length-give : (g : Giving) (number : ℕ) → length (give g number).actors ≡ length g.actors
+unfolding give
+length-give g number = length-set g.actors number (actor_without (get_or g.actors number no_actor))
+
+length-given : (g : Giving) (numbers : List ℕ) → length (given g numbers).actors ≡ length g.actors
+length-given g [] = refl
+length-given g (number ∷ numbers) = length-given (give g number) numbers ∙ length-give g number
+
+length-settled : (clock found : ℕ) (actors : List ActorState) → length (settled_actors clock found actors) ≡ length actors
+length-settled clock found [] = refl
+length-settled clock found (actor ∷ actors) = ap suc (length-settled clock (length (entries_of actor.part)) actors)
+
+pub wired_settled : (moment : ℕ) (asked : List ℕ) (w : WorldState) → IsWired w → IsWired (settled moment asked w)
 unfolding settled
-wired_settled moment w wired = record {
-  as_many = wired.as_many;
-  readers = readers_among_as_many (length w.actors) (length (map (settled_actor (greatest_clock w.actors + 1)) w.actors)) w.wires (sym (length-map w.actors (settled_actor (greatest_clock w.actors + 1)))) wired.readers;
-}
+wired_settled moment asked w wired =
+    let g = given (record { actors = w.actors; answers = [] }) asked in
+    let clock = greatest_clock w.actors + 1 in
+    let same = length-settled clock 0 g.actors ∙ length-given (record { actors = w.actors; answers = [] }) asked in
+    record {
+      as_many = wired.as_many;
+      readers = readers_among_as_many (length w.actors) (length (settled_actors clock 0 g.actors)) w.wires (sym same) wired.readers;
+    }
+
+ready_world_of : (all : List Role) → IsReady (world_of all)
+ready_world_of all = record { wired = wired_world_of all; find = find_start 0 all }
+
+ready_issued : (w : WorldState) (issues : List Output) → IsReady w → IsReady (issued w issues)
+ready_issued w issues ready = record { wired = wired_issued w issues ready.wired; find = find_issued w issues ready.find }
+
+ready_settled : (moment : ℕ) (asked : List ℕ) (w : WorldState) → IsReady w → IsReady (settled moment asked w)
+ready_settled moment asked w ready = record { wired = wired_settled moment asked w ready.wired; find = find_settled moment asked w }
 
 -- no round is wanted any more
 abbrev stops : WorldState → Bool
@@ -54,46 +83,46 @@ abbrev then_rounds : ℕ → WorldState → List Turn → List Turn
 then_rounds zero w later = later
 then_rounds (suc count) w later = cond (stops w) later (then_round w 0 (map length w.lanes) (then_rounds count (round w) later))
 
-wired_if : (stop : Bool) (m n : Marked) → IsWired m.world → IsWired n.world → IsWired (cond stop m n).world
-wired_if true m n g h = g
-wired_if false m n g h = h
+ready_if : (stop : Bool) (m n : Marked) → IsReady m.world → IsReady n.world → IsReady (cond stop m n).world
+ready_if true m n g h = g
+ready_if false m n g h = h
 
-wired_rounds_of : (m : Marked) (count : ℕ) → IsWired m.world → IsWired (rounds_of m count).world
-wired_rounds_of m zero wired = wired
-wired_rounds_of m (suc count) wired =
-    wired_if (stops m.world) m (rounds_of (after_round m) count) wired (wired_rounds_of (after_round m) count (wired_round m.world wired))
+ready_rounds_of : (m : Marked) (count : ℕ) → IsReady m.world → IsReady (rounds_of m count).world
+ready_rounds_of m zero ready = ready
+ready_rounds_of m (suc count) ready =
+    ready_if (stops m.world) m (rounds_of (after_round m) count) ready (ready_rounds_of (after_round m) count (ready_round m.world ready))
 
 -- one round, or none where none is wanted
-one_round : (m : Marked) (count : ℕ) (phase : Phase) (phases : List Phase) (later : List Turn) (stop : Bool) → stops m.world ≡ stop → IsWired m.world
+one_round : (m : Marked) (count : ℕ) (phase : Phase) (phases : List Phase) (later : List Turn) (stop : Bool) → stops m.world ≡ stop → IsReady m.world
     → run_from (advance (round m.world) (phase ∷ phases)) (then_rounds count (round m.world) later) ≡ run_from (advance (rounds_of (after_round m) count).world (phase ∷ phases)) later
     → run_from (advance m.world (phase ∷ phases)) (cond stop later (then_round m.world 0 (map length m.world.lanes) (then_rounds count (round m.world) later)))
     ≡ run_from (advance (cond stop m (rounds_of (after_round m) count)).world (phase ∷ phases)) later
-one_round m count phase phases later true e wired others = refl
-one_round m count phase phases later false e wired others =
+one_round m count phase phases later true e ready others = refl
+one_round m count phase phases later false e ready others =
     let waits = waits-or (is_drained m.world) (is_over m.world) e in
     ap (λ p. run_from p (then_round m.world 0 (map length m.world.lanes) (then_rounds count (round m.world) later))) (advance-waits m.world phase phases waits)
-    ∙ round_runs m.world phase phases (then_rounds count (round m.world) later) wired waits ∙ others
+    ∙ round_runs m.world phase phases (then_rounds count (round m.world) later) ready waits ∙ others
 
 -- the rounds of a phase are turns of a run
-rounds_run : (m : Marked) (count : ℕ) (phase : Phase) (phases : List Phase) (later : List Turn) → IsWired m.world
+rounds_run : (m : Marked) (count : ℕ) (phase : Phase) (phases : List Phase) (later : List Turn) → IsReady m.world
     → run_from (advance m.world (phase ∷ phases)) (then_rounds count m.world later) ≡ run_from (advance (rounds_of m count).world (phase ∷ phases)) later
-rounds_run m zero phase phases later wired = refl
-rounds_run m (suc count) phase phases later wired =
-    one_round m count phase phases later (stops m.world) refl wired
-    (rounds_run (after_round m) count phase phases later (wired_round m.world wired))
+rounds_run m zero phase phases later ready = refl
+rounds_run m (suc count) phase phases later ready =
+    one_round m count phase phases later (stops m.world) refl ready
+    (rounds_run (after_round m) count phase phases later (ready_round m.world ready))
 
-one_round_scheduled : (m : Marked) (count : ℕ) (later : List Turn) (stop : Bool) → IsWired m.world
+one_round_scheduled : (m : Marked) (count : ℕ) (later : List Turn) (stop : Bool) → IsReady m.world
     → schedule_of (rounds_of (after_round m) count).world.turns ++ later ≡ schedule_of (round m.world).turns ++ then_rounds count (round m.world) later
     → schedule_of (cond stop m (rounds_of (after_round m) count)).world.turns ++ later
     ≡ schedule_of m.world.turns ++ cond stop later (then_round m.world 0 (map length m.world.lanes) (then_rounds count (round m.world) later))
-one_round_scheduled m count later true wired others = refl
-one_round_scheduled m count later false wired others = others ∙ round_schedules m.world (then_rounds count (round m.world) later) wired
+one_round_scheduled m count later true ready others = refl
+one_round_scheduled m count later false ready others = others ∙ round_schedules m.world (then_rounds count (round m.world) later) ready
 
-rounds_scheduled : (m : Marked) (count : ℕ) (later : List Turn) → IsWired m.world
+rounds_scheduled : (m : Marked) (count : ℕ) (later : List Turn) → IsReady m.world
     → schedule_of (rounds_of m count).world.turns ++ later ≡ schedule_of m.world.turns ++ then_rounds count m.world later
-rounds_scheduled m zero later wired = refl
-rounds_scheduled m (suc count) later wired =
-    one_round_scheduled m count later (stops m.world) wired (rounds_scheduled (after_round m) count later (wired_round m.world wired))
+rounds_scheduled m zero later ready = refl
+rounds_scheduled m (suc count) later ready =
+    one_round_scheduled m count later (stops m.world) ready (rounds_scheduled (after_round m) count later (ready_round m.world ready))
 
 -- what a phase begins with, and what the next one does
 abbrev with_issues : Marked → Phase → Marked
@@ -107,8 +136,8 @@ abbrev turns_of_phases : Marked → List Phase → List Turn
 turns_of_phases m [] = []
 turns_of_phases m (phase ∷ phases) = then_rounds phase.rounds (issued m.world phase.issues) (turns_of_phases (next_phase m phase) phases)
 
-wired_phase : (m : Marked) (phase : Phase) → IsWired m.world → IsWired (phase_of m phase).world
-wired_phase m phase wired = wired_rounds_of (with_issues m phase) phase.rounds (wired_issued m.world phase.issues wired)
+ready_phase : (m : Marked) (phase : Phase) → IsReady m.world → IsReady (phase_of m phase).world
+ready_phase m phase ready = ready_rounds_of (with_issues m phase) phase.rounds (ready_issued m.world phase.issues ready)
 
 -- how rounds go on after those of a phase, where it isn't over before its settle or by it
 abbrev pub goes_on : Bool → Bool → ℕ → Marked → Marked → List Phase → Ended
@@ -124,7 +153,7 @@ drained-or false false e = cc
 -- a world, and the phases from one on, as a run by rounds and as a run by turns
 abbrev RunsPhases : List Phase → Type 0
 RunsPhases phases =
-    (number : ℕ) (m : Marked) → IsWired m.world → (rounds_from number m phases).unsettled ≡ None
+    (number : ℕ) (m : Marked) → IsReady m.world → (rounds_from number m phases).unsettled ≡ None
     → run_from (advance (begun m.world phases) phases) (turns_of_phases m phases) ≡ Ok (rounds_from number m phases).last.world
 
 settled_phase : (number : ℕ) (phase : Phase) (phases : List Phase) (later : List Turn) (done : Marked) (unsettled over : Bool) → is_over done.world || not (is_drained done.world) ≡ unsettled
@@ -138,25 +167,25 @@ settled_phase number phase phases later done false true e settles others = cc se
 settled_phase number phase phases later done true over e settles others = cc settles
 
 runs_phases : (phases : List Phase) → RunsPhases phases
-runs_phases [] number m wired settles = refl
-runs_phases (phase ∷ phases) number m wired settles =
+runs_phases [] number m ready settles = refl
+runs_phases (phase ∷ phases) number m ready settles =
     let done = phase_of m phase in
     let next = next_phase m phase in
-    rounds_run (with_issues m phase) phase.rounds phase phases (turns_of_phases next phases) (wired_issued m.world phase.issues wired)
+    rounds_run (with_issues m phase) phase.rounds phase phases (turns_of_phases next phases) (ready_issued m.world phase.issues ready)
     ∙ settled_phase number phase phases (turns_of_phases next phases) done (is_over done.world || not (is_drained done.world)) (is_over next.world) refl settles
-    (λ others. runs_phases phases (number + 1) next (wired_settled phase.moment done.world (wired_phase m phase wired)) others)
+    (λ others. runs_phases phases (number + 1) next (ready_settled phase.moment (desks_asked phase.issues) done.world (ready_phase m phase ready)) others)
 
 turns-issued : (w : WorldState) (issues : List Output) → (issued w issues).turns ≡ w.turns
 unfolding issued
 turns-issued w issues = refl
 
-turns-settled : (moment : ℕ) (w : WorldState) → (settled moment w).turns ≡ w.turns
+turns-settled : (moment : ℕ) (asked : List ℕ) (w : WorldState) → (settled moment asked w).turns ≡ w.turns
 unfolding settled
-turns-settled moment w = refl
+turns-settled moment asked w = refl
 
 abbrev SchedulesPhases : List Phase → Type 0
 SchedulesPhases phases =
-    (number : ℕ) (m : Marked) → IsWired m.world → (rounds_from number m phases).unsettled ≡ None
+    (number : ℕ) (m : Marked) → IsReady m.world → (rounds_from number m phases).unsettled ≡ None
     → schedule_of (rounds_from number m phases).last.world.turns ≡ schedule_of m.world.turns ++ turns_of_phases m phases
 
 scheduled_phase : (number : ℕ) (phase : Phase) (phases : List Phase) (later : List Turn) (done : Marked) (unsettled over : Bool)
@@ -165,24 +194,24 @@ scheduled_phase : (number : ℕ) (phase : Phase) (phases : List Phase) (later : 
     → schedule_of (rounds_from (number + 1) (settle_of phase done) phases).last.world.turns ≡ schedule_of (settle_of phase done).world.turns ++ later)
     → schedule_of (goes_on unsettled over number done (settle_of phase done) phases).last.world.turns ≡ schedule_of done.world.turns ++ later
 scheduled_phase number phase phases later done false false settles others =
-    others settles ∙ ap (λ ts. schedule_of ts ++ later) (turns-settled phase.moment done.world)
+    others settles ∙ ap (λ ts. schedule_of ts ++ later) (turns-settled phase.moment (desks_asked phase.issues) done.world)
 scheduled_phase number phase phases later done false true settles others = cc settles
 scheduled_phase number phase phases later done true over settles others = cc settles
 
 schedules_phases : (phases : List Phase) → SchedulesPhases phases
-schedules_phases [] number m wired settles = sym (append-nil (schedule_of m.world.turns))
-schedules_phases (phase ∷ phases) number m wired settles =
+schedules_phases [] number m ready settles = sym (append-nil (schedule_of m.world.turns))
+schedules_phases (phase ∷ phases) number m ready settles =
     let done = phase_of m phase in
     let next = next_phase m phase in
     let later = turns_of_phases next phases in
     scheduled_phase number phase phases later done (is_over done.world || not (is_drained done.world)) (is_over next.world) settles
-    (λ others. schedules_phases phases (number + 1) next (wired_settled phase.moment done.world (wired_phase m phase wired)) others)
-    ∙ rounds_scheduled (with_issues m phase) phase.rounds later (wired_issued m.world phase.issues wired)
+    (λ others. schedules_phases phases (number + 1) next (ready_settled phase.moment (desks_asked phase.issues) done.world (ready_phase m phase ready)) others)
+    ∙ rounds_scheduled (with_issues m phase) phase.rounds later (ready_issued m.world phase.issues ready)
     ∙ ap (λ ts. schedule_of ts ++ then_rounds phase.rounds (issued m.world phase.issues) later) (turns-issued m.world phase.issues)
 
 pub rounds_are_a_run : RoundsAreARun
 unfolding round_robin run
 rounds_are_a_run lab settles =
     let m : Marked = record { world = start lab; marks = [] } in
-    ap (run_from (advance (begun (start lab) (phases lab)) (phases lab))) (schedules_phases (phases lab) 1 m (wired_world_of (roles lab)) settles)
-    ∙ runs_phases (phases lab) 1 m (wired_world_of (roles lab)) settles
+    ap (run_from (advance (begun (start lab) (phases lab)) (phases lab))) (schedules_phases (phases lab) 1 m (ready_world_of (roles lab)) settles)
+    ∙ runs_phases (phases lab) 1 m (ready_world_of (roles lab)) settles

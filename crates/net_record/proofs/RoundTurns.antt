@@ -2,25 +2,40 @@
 -- is passed, nothing more is done.
 use Rattle.std.proofs.Common.{◌≡◌, ℕ, zero, suc, ◌+◌, ◌<◌, ◌≤◌, List, [], ◌∷◌, ◌++◌, Bool, true, false, cond, length, map, get_or, drop, refl, sym, ◌∙◌, ap, arith, append_assoc, add-one}
 use Rattle.std.specs.List.{list_all}
-use Rattle.std.proofs.lemmas.Bool.{false≢true}
+use Rattle.std.proofs.lemmas.Bool.{false≢true, le-leb}
 use Rattle.or_base.specs.declared.item.Stamped.{Stamped}
 use Rattle.net_scenario.specs.declared.schedule.Turn.{Turn}
 use Rattle.net_record.specs.declared.phase.Phase.{Phase}
-use Rattle.net_record.specs.World.{WorldState, waiting, turn, is_empty, is_drained}
+use Rattle.net_record.specs.World.{WorldState, waiting, turn, range, is_empty, is_drained}
 use Rattle.net_record.specs.Budget.{is_over}
-use Rattle.net_record.specs.Rounds.{turns_on, round_from, round}
+use Rattle.net_record.specs.Rounds.{longest, turns_on, round_from, round}
 use Rattle.net_record.specs.Run.{advance, is_legal, run_from, schedule_of}
 use Rattle.net_record.specs.Wired.{IsWired}
 use Rattle.net_record.proofs.Turns.{wired_turn, turn_keeps, turn_leaves, turn_scheduled}
+use Rattle.net_record.proofs.Found.{DesksFind, find_turn, range_holds}
 
--- a turn of a lane
-abbrev pub turn_on : ℕ → Turn
-turn_on lane = record { lane = lane; at = 0 }
+-- a turn of a lane in a round, and the world after it
+abbrev pub turn_on : WorldState → ℕ → Turn
+turn_on w lane = record { lane = lane; at = longest w lane }
+
+abbrev pub robin : WorldState → ℕ → WorldState
+robin w lane = turn w lane (longest w lane)
+
+-- lanes and readers are there, and no desk found more than its store has
+pub record IsReady (w : WorldState) : Type 0 where
+  pub wired : IsWired w
+  pub find : DesksFind 0 w.actors
+
+ready_turn : (w : WorldState) (lane : ℕ) → IsReady w → IsReady (robin w lane)
+ready_turn w lane ready = record {
+  wired = wired_turn w lane (longest w lane) ready.wired;
+  find = find_turn w lane (longest w lane) ready.find (omega arith);
+}
 
 -- so many turns of a lane, as far as the budget goes, and then these
 abbrev pub then_turns_on : WorldState → ℕ → ℕ → List Turn → List Turn
 then_turns_on w lane zero later = later
-then_turns_on w lane (suc count) later = cond (is_over w) later (turn_on lane ∷ then_turns_on (turn w lane 0) lane count later)
+then_turns_on w lane (suc count) later = cond (is_over w) later (turn_on w lane ∷ then_turns_on (robin w lane) lane count later)
 
 -- so many turns of each lane, from this one on, as far as the budget goes, and then these
 abbrev pub then_round : WorldState → ℕ → List ℕ → List Turn → List Turn
@@ -95,11 +110,11 @@ then_round-over w lane (count ∷ counts) later over =
 
 -- and where it isn't, the next turn is done
 round_from-step : (w : WorldState) (lane count : ℕ) (counts : List ℕ) → is_over w ≡ false
-    → round_from w lane (suc count ∷ counts) ≡ round_from (turn w lane 0) lane (count ∷ counts)
+    → round_from w lane (suc count ∷ counts) ≡ round_from (robin w lane) lane (count ∷ counts)
 round_from-step w lane count counts within = rw within refl
 
 then_round-step : (w : WorldState) (lane count : ℕ) (counts : List ℕ) (later : List Turn) → is_over w ≡ false
-    → then_round w lane (suc count ∷ counts) later ≡ turn_on lane ∷ then_round (turn w lane 0) lane (count ∷ counts) later
+    → then_round w lane (suc count ∷ counts) later ≡ turn_on w lane ∷ then_round (robin w lane) lane (count ∷ counts) later
 then_round-step w lane count counts later within = rw within refl
 
 -- the front item of a lane on which an item waits
@@ -115,18 +130,19 @@ front_of (s ∷ others) h = (s, others, refl)
 pub front : (w : WorldState) (lane : ℕ) → 0 < length (waiting w lane) → Front w lane
 front w lane h = let f = front_of (waiting w lane) h in record { item = f.0; others = f.1; is = f.2 }
 
-legal : (w : WorldState) (lane : ℕ) → Front w lane → is_legal w (turn_on lane) ≡ true
-legal w lane f = rw f.is refl
+legal : (w : WorldState) (lane : ℕ) → IsReady w → Front w lane → is_legal w (turn_on w lane) ≡ true
+legal w lane ready f =
+    rw (f.is, le-leb (range w lane).least (longest w lane) (range_holds w lane ready.find), le-leb (longest w lane) (longest w lane) (omega arith)) refl
 
 -- one turn of a run
-pub run_from-turn : (w : WorldState) (phase : Phase) (phases : List Phase) (lane : ℕ) (later : List Turn) → Front w lane
-    → run_from (record { world = w; unsettled = phase ∷ phases }) (turn_on lane ∷ later) ≡ run_from (advance (turn w lane 0) (phase ∷ phases)) later
-run_from-turn w phase phases lane later f = rw (legal w lane f) refl
+pub run_from-turn : (w : WorldState) (phase : Phase) (phases : List Phase) (lane : ℕ) (later : List Turn) → IsReady w → Front w lane
+    → run_from (record { world = w; unsettled = phase ∷ phases }) (turn_on w lane ∷ later) ≡ run_from (advance (robin w lane) (phase ∷ phases)) later
+run_from-turn w phase phases lane later ready f = rw (legal w lane ready f) refl
 
-Backed-turn : (w : WorldState) (lane count : ℕ) (counts : List ℕ) → IsWired w → Front w lane → Backed w lane (suc count ∷ counts) → Backed (turn w lane 0) lane (count ∷ counts)
-Backed-turn w lane count counts wired f h = (
-  omega (arith, h.0, turn_leaves w lane 0 f.item f.others wired f.is, ap length f.is),
-  Backed-kept w (turn w lane 0) (lane + 1) counts (λ other above. turn_keeps w lane 0 f.item f.others wired f.is other (omega arith)) h.1,
+Backed-turn : (w : WorldState) (lane count : ℕ) (counts : List ℕ) → IsReady w → Front w lane → Backed w lane (suc count ∷ counts) → Backed (robin w lane) lane (count ∷ counts)
+Backed-turn w lane count counts ready f h = (
+  omega (arith, h.0, turn_leaves w lane (longest w lane) f.item f.others ready.wired f.is, ap length f.is),
+  Backed-kept w (robin w lane) (lane + 1) counts (λ other above. turn_keeps w lane (longest w lane) f.item f.others ready.wired f.is other (omega arith)) h.1,
 )
 
 -- what is left of a round, as turns of a run in which the first of these phases isn't settled
@@ -136,7 +152,7 @@ RunsRoundOf w lane counts phase phases later =
 
 abbrev RunsRound : List ℕ → Type 0
 RunsRound counts =
-    (w : WorldState) (lane : ℕ) (phase : Phase) (phases : List Phase) (later : List Turn) → IsWired w → Backed w lane counts → some_left counts ≡ true
+    (w : WorldState) (lane : ℕ) (phase : Phase) (phases : List Phase) (later : List Turn) → IsReady w → Backed w lane counts → some_left counts ≡ true
     → RunsRoundOf w lane counts phase phases later
 
 after_one : (v : WorldState) (lane count : ℕ) (counts : List ℕ) (phase : Phase) (phases : List Phase) (later : List Turn) (left : Bool) → some_left (count ∷ counts) ≡ left → Backed v lane (count ∷ counts)
@@ -157,43 +173,43 @@ runs-over w lane counts phase phases later waits over =
     ∙ ap (λ v. run_from (advance v (phase ∷ phases)) later) (sym (round_from-over w lane counts over))
 
 -- one turn of a lane, or none where the budget is passed
-one_turn : (w : WorldState) (lane count : ℕ) (counts : List ℕ) (phase : Phase) (phases : List Phase) (later : List Turn) (over : Bool) → is_over w ≡ over → IsWired w → Backed w lane (suc count ∷ counts)
-    → (IsWired (turn w lane 0) → Backed (turn w lane 0) lane (count ∷ counts) → some_left (count ∷ counts) ≡ true → RunsRoundOf (turn w lane 0) lane (count ∷ counts) phase phases later)
+one_turn : (w : WorldState) (lane count : ℕ) (counts : List ℕ) (phase : Phase) (phases : List Phase) (later : List Turn) (over : Bool) → is_over w ≡ over → IsReady w → Backed w lane (suc count ∷ counts)
+    → (IsReady (robin w lane) → Backed (robin w lane) lane (count ∷ counts) → some_left (count ∷ counts) ≡ true → RunsRoundOf (robin w lane) lane (count ∷ counts) phase phases later)
     → RunsRoundOf w lane (suc count ∷ counts) phase phases later
-one_turn w lane count counts phase phases later true over wired backed goes_on =
+one_turn w lane count counts phase phases later true over ready backed goes_on =
     runs-over w lane (suc count ∷ counts) phase phases later (not_drained w lane (suc count ∷ counts) backed refl) over
-one_turn w lane count counts phase phases later false within wired backed goes_on =
+one_turn w lane count counts phase phases later false within ready backed goes_on =
     let f = front w lane (omega (arith, backed.0)) in
-    let v = turn w lane 0 in
-    let kept = Backed-turn w lane count counts wired f backed in
+    let v = robin w lane in
+    let kept = Backed-turn w lane count counts ready f backed in
     ap (run_from (record { world = w; unsettled = phase ∷ phases })) (then_round-step w lane count counts later within)
-    ∙ run_from-turn w phase phases lane (then_round v lane (count ∷ counts) later) f
-    ∙ after_one v lane count counts phase phases later (some_left (count ∷ counts)) refl kept (goes_on (wired_turn w lane 0 wired) kept)
+    ∙ run_from-turn w phase phases lane (then_round v lane (count ∷ counts) later) ready f
+    ∙ after_one v lane count counts phase phases later (some_left (count ∷ counts)) refl kept (goes_on (ready_turn w lane ready) kept)
     ∙ ap (λ u. run_from (advance u (phase ∷ phases)) later) (sym (round_from-step w lane count counts within))
 
 one_lane : (counts : List ℕ) → RunsRound counts → (count : ℕ) → RunsRound (count ∷ counts)
-one_lane counts others zero w lane phase phases later wired backed some = others w (lane + 1) phase phases later wired backed.1 some
-one_lane counts others (suc count) w lane phase phases later wired backed some =
-    one_turn w lane count counts phase phases later (is_over w) refl wired backed
-    (λ still kept left. one_lane counts others count (turn w lane 0) lane phase phases later still kept left)
+one_lane counts others zero w lane phase phases later ready backed some = others w (lane + 1) phase phases later ready backed.1 some
+one_lane counts others (suc count) w lane phase phases later ready backed some =
+    one_turn w lane count counts phase phases later (is_over w) refl ready backed
+    (λ still kept left. one_lane counts others count (robin w lane) lane phase phases later still kept left)
 
 pub runs_round : (counts : List ℕ) → RunsRound counts
-runs_round [] w lane phase phases later wired backed some = absurd (false≢true some)
-runs_round (count ∷ counts) w lane phase phases later wired backed some =
-    one_lane counts (runs_round counts) count w lane phase phases later wired backed some
+runs_round [] w lane phase phases later ready backed some = absurd (false≢true some)
+runs_round (count ∷ counts) w lane phase phases later ready backed some =
+    one_lane counts (runs_round counts) count w lane phase phases later ready backed some
 
-wired_if : (over : Bool) (w v : WorldState) → IsWired w → IsWired v → IsWired (cond over w v)
-wired_if true w v g h = g
-wired_if false w v g h = h
+ready_if : (over : Bool) (w v : WorldState) → IsReady w → IsReady v → IsReady (cond over w v)
+ready_if true w v g h = g
+ready_if false w v g h = h
 
-wired_turns_on : (w : WorldState) (lane count : ℕ) → IsWired w → IsWired (turns_on w lane count)
-wired_turns_on w lane zero wired = wired
-wired_turns_on w lane (suc count) wired =
-    wired_if (is_over w) w (turns_on (turn w lane 0) lane count) wired (wired_turns_on (turn w lane 0) lane count (wired_turn w lane 0 wired))
+ready_turns_on : (w : WorldState) (lane count : ℕ) → IsReady w → IsReady (turns_on w lane count)
+ready_turns_on w lane zero ready = ready
+ready_turns_on w lane (suc count) ready =
+    ready_if (is_over w) w (turns_on (robin w lane) lane count) ready (ready_turns_on (robin w lane) lane count (ready_turn w lane ready))
 
-pub wired_round_from : (w : WorldState) (lane : ℕ) (counts : List ℕ) → IsWired w → IsWired (round_from w lane counts)
-wired_round_from w lane [] wired = wired
-wired_round_from w lane (count ∷ counts) wired = wired_round_from (turns_on w lane count) (lane + 1) counts (wired_turns_on w lane count wired)
+pub ready_round_from : (w : WorldState) (lane : ℕ) (counts : List ℕ) → IsReady w → IsReady (round_from w lane counts)
+ready_round_from w lane [] ready = ready
+ready_round_from w lane (count ∷ counts) ready = ready_round_from (turns_on w lane count) (lane + 1) counts (ready_turns_on w lane count ready)
 
 -- the turns of what is left of a round are in the schedule
 abbrev SchedulesRoundOf : WorldState → ℕ → List ℕ → List Turn → Type 0
@@ -201,32 +217,32 @@ SchedulesRoundOf w lane counts later = schedule_of (round_from w lane counts).tu
 
 abbrev SchedulesRound : List ℕ → Type 0
 SchedulesRound counts =
-    (w : WorldState) (lane : ℕ) (later : List Turn) → IsWired w → Backed w lane counts → SchedulesRoundOf w lane counts later
+    (w : WorldState) (lane : ℕ) (later : List Turn) → IsReady w → Backed w lane counts → SchedulesRoundOf w lane counts later
 
-schedules_turn : (w : WorldState) (lane count : ℕ) (counts : List ℕ) (later : List Turn) (over : Bool) → is_over w ≡ over → IsWired w → Backed w lane (suc count ∷ counts)
-    → (IsWired (turn w lane 0) → Backed (turn w lane 0) lane (count ∷ counts) → SchedulesRoundOf (turn w lane 0) lane (count ∷ counts) later)
+schedules_turn : (w : WorldState) (lane count : ℕ) (counts : List ℕ) (later : List Turn) (over : Bool) → is_over w ≡ over → IsReady w → Backed w lane (suc count ∷ counts)
+    → (IsReady (robin w lane) → Backed (robin w lane) lane (count ∷ counts) → SchedulesRoundOf (robin w lane) lane (count ∷ counts) later)
     → SchedulesRoundOf w lane (suc count ∷ counts) later
-schedules_turn w lane count counts later true over wired backed goes_on =
+schedules_turn w lane count counts later true over ready backed goes_on =
     ap (λ v. schedule_of v.turns ++ later) (round_from-over w lane (suc count ∷ counts) over)
     ∙ ap (λ ts. schedule_of w.turns ++ ts) (sym (then_round-over w lane (suc count ∷ counts) later over))
-schedules_turn w lane count counts later false within wired backed goes_on =
+schedules_turn w lane count counts later false within ready backed goes_on =
     let f = front w lane (omega (arith, backed.0)) in
-    let v = turn w lane 0 in
+    let v = robin w lane in
     ap (λ u. schedule_of u.turns ++ later) (round_from-step w lane count counts within)
-    ∙ goes_on (wired_turn w lane 0 wired) (Backed-turn w lane count counts wired f backed)
-    ∙ ap (λ ts. ts ++ then_round v lane (count ∷ counts) later) (turn_scheduled w lane 0 f.item f.others wired f.is)
-    ∙ append_assoc (schedule_of w.turns) (turn_on lane ∷ []) (then_round v lane (count ∷ counts) later)
+    ∙ goes_on (ready_turn w lane ready) (Backed-turn w lane count counts ready f backed)
+    ∙ ap (λ ts. ts ++ then_round v lane (count ∷ counts) later) (turn_scheduled w lane (longest w lane) f.item f.others ready.wired f.is)
+    ∙ append_assoc (schedule_of w.turns) (turn_on w lane ∷ []) (then_round v lane (count ∷ counts) later)
     ∙ ap (λ ts. schedule_of w.turns ++ ts) (sym (then_round-step w lane count counts later within))
 
 schedules_lane : (counts : List ℕ) → SchedulesRound counts → (count : ℕ) → SchedulesRound (count ∷ counts)
-schedules_lane counts others zero w lane later wired backed = others w (lane + 1) later wired backed.1
-schedules_lane counts others (suc count) w lane later wired backed =
-    schedules_turn w lane count counts later (is_over w) refl wired backed
-    (λ still kept. schedules_lane counts others count (turn w lane 0) lane later still kept)
+schedules_lane counts others zero w lane later ready backed = others w (lane + 1) later ready backed.1
+schedules_lane counts others (suc count) w lane later ready backed =
+    schedules_turn w lane count counts later (is_over w) refl ready backed
+    (λ still kept. schedules_lane counts others count (robin w lane) lane later still kept)
 
 pub schedules_round : (counts : List ℕ) → SchedulesRound counts
-schedules_round [] w lane later wired backed = refl
-schedules_round (count ∷ counts) w lane later wired backed = schedules_lane counts (schedules_round counts) count w lane later wired backed
+schedules_round [] w lane later ready backed = refl
+schedules_round (count ∷ counts) w lane later ready backed = schedules_lane counts (schedules_round counts) count w lane later ready backed
 
 at_drop : (lanes : List (List Stamped)) (lane : ℕ) (first : List Stamped) (rest : List (List Stamped)) → drop lane lanes ≡ first ∷ rest → (get_or lanes lane [] ≡ first) × (drop (suc lane) lanes ≡ rest)
 at_drop [] zero first rest e = cc
@@ -249,16 +265,16 @@ some_waits ([] ∷ lanes) e = some_waits lanes e
 some_waits ((s ∷ others) ∷ lanes) e = refl
 
 -- a round of a world in which an item waits
-pub round_runs : (w : WorldState) (phase : Phase) (phases : List Phase) (later : List Turn) → IsWired w → is_drained w ≡ false
+pub round_runs : (w : WorldState) (phase : Phase) (phases : List Phase) (later : List Turn) → IsReady w → is_drained w ≡ false
     → run_from (record { world = w; unsettled = phase ∷ phases }) (then_round w 0 (map length w.lanes) later) ≡ run_from (advance (round w) (phase ∷ phases)) later
 unfolding round
-round_runs w phase phases later wired waits = runs_round (map length w.lanes) w 0 phase phases later wired (Backed-all w) (some_waits w.lanes waits)
+round_runs w phase phases later ready waits = runs_round (map length w.lanes) w 0 phase phases later ready (Backed-all w) (some_waits w.lanes waits)
 
-pub round_schedules : (w : WorldState) (later : List Turn) → IsWired w
+pub round_schedules : (w : WorldState) (later : List Turn) → IsReady w
     → schedule_of (round w).turns ++ later ≡ schedule_of w.turns ++ then_round w 0 (map length w.lanes) later
 unfolding round
-round_schedules w later wired = schedules_round (map length w.lanes) w 0 later wired (Backed-all w)
+round_schedules w later ready = schedules_round (map length w.lanes) w 0 later ready (Backed-all w)
 
-pub wired_round : (w : WorldState) → IsWired w → IsWired (round w)
+pub ready_round : (w : WorldState) → IsReady w → IsReady (round w)
 unfolding round
-wired_round w wired = wired_round_from w 0 (map length w.lanes) wired
+ready_round w ready = ready_round_from w 0 (map length w.lanes) ready

@@ -8,9 +8,10 @@ use Rattle.or_base.specs.declared.item.Stamped.{Stamped}
 use Rattle.or_base.specs.declared.item.TurnDone.{TurnDone}
 use Rattle.net_scenario.specs.declared.schedule.Turn.{Turn}
 use Rattle.net_record.specs.declared.wire.Wire.{Wire}
-use Rattle.net_record.specs.declared.part.Part.TheVariants.{Driver}
 use Rattle.net_record.specs.declared.actor.ActorState.{ActorState}
-use Rattle.net_record.specs.World.{WorldState, waiting, turn, turn_of, turn_by, reader_of, next_stamp, outputs_of, actor_after}
+use Rattle.net_record.specs.declared.lookup.Look.{Look}
+use Rattle.net_record.specs.Actors.{no_actor, look, next_stamp, outputs_of, actor_after}
+use Rattle.net_record.specs.World.{WorldState, waiting, turn, turn_of, turn_by, reader_of}
 use Rattle.net_record.specs.Run.{schedule_of}
 use Rattle.net_record.specs.Wired.{IsWired}
 use Rattle.net_record.proofs.Delivered.{length-delivered, delivered_keeps}
@@ -18,14 +19,12 @@ use Rattle.net_record.proofs.Delivered.{length-delivered, delivered_keeps}
 abbrev some_wire : Wire
 some_wire = record { writer = 0; port = 0; reader = 0 }
 
-abbrev some_actor : ActorState
-some_actor = record { part = Driver; clock = 0; told = 0 }
-
--- a turn that takes an item: the actor that took it
+-- a turn that takes an item: the actor that took it, and what it found
 pub record Took (w : WorldState) (lane at : ℕ) (s : Stamped) (others : List Stamped) : Type 0 where
   pub reader : ℕ
   pub actor : ActorState
-  pub is : turn w lane at ≡ turn_of w lane at reader s others actor
+  pub found : Look
+  pub is : turn w lane at ≡ turn_of w lane at reader s others actor found
 
 lane_within : (w : WorldState) (lane : ℕ) (s : Stamped) (others : List Stamped) → waiting w lane ≡ s ∷ others → lane < length w.lanes
 lane_within w lane s others e =
@@ -36,7 +35,7 @@ lane_within w lane s others e =
 
 turn_some : (w : WorldState) (lane at : ℕ) (wire : Wire) (s : Stamped) (others : List Stamped) (actor : ActorState)
     → slice_get w.wires lane ≡ Some wire → waiting w lane ≡ s ∷ others → slice_get w.actors wire.reader ≡ Some actor
-    → turn w lane at ≡ turn_of w lane at wire.reader s others actor
+    → turn w lane at ≡ turn_of w lane at wire.reader s others actor (look w.actors wire.reader actor.part at s.item)
 unfolding turn
 turn_some w lane at wire s others actor e h k = rw (e, h, k) refl
 
@@ -46,23 +45,25 @@ took w lane at s others wired e =
     let within : lane < length w.wires = omega (arith, lane_within w lane s others e, wired.as_many) in
     let wire = get_or w.wires lane some_wire in
     let reads : wire.reader < length w.actors = wired.readers lane some_wire within in
+    let actor = get_or w.actors wire.reader no_actor in
     record {
       reader = wire.reader;
-      actor = get_or w.actors wire.reader some_actor;
-      is = turn_some w lane at wire s others (get_or w.actors wire.reader some_actor) (slice_get-get_or w.wires lane some_wire within) e (slice_get-get_or w.actors wire.reader some_actor reads);
+      actor = actor;
+      found = look w.actors wire.reader actor.part at s.item;
+      is = turn_some w lane at wire s others actor (slice_get-get_or w.wires lane some_wire within) e (slice_get-get_or w.actors wire.reader no_actor reads);
     }
 
-wired_after : (w : WorldState) (lane at reader : ℕ) (s : Stamped) (others : List Stamped) (actor : ActorState) → IsWired w → IsWired (turn_of w lane at reader s others actor)
+wired_after : (w : WorldState) (lane at reader : ℕ) (s : Stamped) (others : List Stamped) (actor : ActorState) (found : Look) → IsWired w → IsWired (turn_of w lane at reader s others actor found)
 unfolding turn_of
-wired_after w lane at reader s others actor wired = record {
-  as_many = length-delivered w.wires reader (next_stamp actor s) (set w.lanes lane others) (outputs_of actor s.item) ∙ length-set w.lanes lane others ∙ wired.as_many;
-  readers = subst (λ n. (k : ℕ) (d : Wire) → k < length w.wires → (get_or w.wires k d).reader < n) (sym (length-set w.actors reader (actor_after actor s))) wired.readers;
+wired_after w lane at reader s others actor found wired = record {
+  as_many = length-delivered w.wires reader (next_stamp actor s found) (set w.lanes lane others) (outputs_of actor s.item at found) ∙ length-set w.lanes lane others ∙ wired.as_many;
+  readers = subst (λ n. (k : ℕ) (d : Wire) → k < length w.wires → (get_or w.wires k d).reader < n) (sym (length-set w.actors reader (actor_after actor s at found))) wired.readers;
 }
 
 wired_by : (w : WorldState) (lane at reader : ℕ) (items : List Stamped) (actor : Option ActorState) → IsWired w → IsWired (turn_by w lane at reader items actor)
 wired_by w lane at reader [] actor wired = wired
 wired_by w lane at reader (s ∷ others) None wired = wired
-wired_by w lane at reader (s ∷ others) (Some actor) wired = wired_after w lane at reader s others actor wired
+wired_by w lane at reader (s ∷ others) (Some actor) wired = wired_after w lane at reader s others actor (look w.actors reader actor.part at s.item) wired
 
 -- a turn leaves lanes and readers there
 pub wired_turn : (w : WorldState) (lane at : ℕ) → IsWired w → IsWired (turn w lane at)
@@ -71,13 +72,13 @@ wired_turn w lane at wired =
     let reader = reader_of (slice_get w.wires lane) in
     wired_by w lane at reader (waiting w lane) (slice_get w.actors reader) wired
 
-kept_after : (w : WorldState) (lane at reader : ℕ) (s : Stamped) (others : List Stamped) (actor : ActorState) (other : ℕ) → other ≢ lane
-    → length (waiting w other) ≤ length (waiting (turn_of w lane at reader s others actor) other)
+kept_after : (w : WorldState) (lane at reader : ℕ) (s : Stamped) (others : List Stamped) (actor : ActorState) (found : Look) (other : ℕ) → other ≢ lane
+    → length (waiting w other) ≤ length (waiting (turn_of w lane at reader s others actor found) other)
 unfolding turn_of
-kept_after w lane at reader s others actor other h =
+kept_after w lane at reader s others actor found other h =
     omega (
       arith,
-      delivered_keeps w.wires reader (next_stamp actor s) (set w.lanes lane others) (outputs_of actor s.item) other,
+      delivered_keeps w.wires reader (next_stamp actor s found) (set w.lanes lane others) (outputs_of actor s.item at found) other,
       ap length (get_or-set_other w.lanes lane other others [] h),
     )
 
@@ -86,15 +87,15 @@ pub turn_keeps : (w : WorldState) (lane at : ℕ) (s : Stamped) (others : List S
     → length (waiting w other) ≤ length (waiting (turn w lane at) other)
 turn_keeps w lane at s others wired e other h =
     let t = took w lane at s others wired e in
-    subst (λ v. length (waiting w other) ≤ length (waiting v other)) (sym t.is) (kept_after w lane at t.reader s others t.actor other h)
+    subst (λ v. length (waiting w other) ≤ length (waiting v other)) (sym t.is) (kept_after w lane at t.reader s others t.actor t.found other h)
 
-left_after : (w : WorldState) (lane at reader : ℕ) (s : Stamped) (others : List Stamped) (actor : ActorState) → lane < length w.lanes
-    → length others ≤ length (waiting (turn_of w lane at reader s others actor) lane)
+left_after : (w : WorldState) (lane at reader : ℕ) (s : Stamped) (others : List Stamped) (actor : ActorState) (found : Look) → lane < length w.lanes
+    → length others ≤ length (waiting (turn_of w lane at reader s others actor found) lane)
 unfolding turn_of
-left_after w lane at reader s others actor within =
+left_after w lane at reader s others actor found within =
     omega (
       arith,
-      delivered_keeps w.wires reader (next_stamp actor s) (set w.lanes lane others) (outputs_of actor s.item) lane,
+      delivered_keeps w.wires reader (next_stamp actor s found) (set w.lanes lane others) (outputs_of actor s.item at found) lane,
       ap length (get_or-set_same w.lanes lane others [] within),
     )
 
@@ -103,17 +104,17 @@ pub turn_leaves : (w : WorldState) (lane at : ℕ) (s : Stamped) (others : List 
     → length others ≤ length (waiting (turn w lane at) lane)
 turn_leaves w lane at s others wired e =
     let t = took w lane at s others wired e in
-    subst (λ v. length others ≤ length (waiting v lane)) (sym t.is) (left_after w lane at t.reader s others t.actor (lane_within w lane s others e))
+    subst (λ v. length others ≤ length (waiting v lane)) (sym t.is) (left_after w lane at t.reader s others t.actor t.found (lane_within w lane s others e))
 
-turns_after : (w : WorldState) (lane at reader : ℕ) (s : Stamped) (others : List Stamped) (actor : ActorState)
-    → schedule_of (turn_of w lane at reader s others actor).turns ≡ schedule_of w.turns ++ record { lane = lane; at = at } ∷ []
+turns_after : (w : WorldState) (lane at reader : ℕ) (s : Stamped) (others : List Stamped) (actor : ActorState) (found : Look)
+    → schedule_of (turn_of w lane at reader s others actor found).turns ≡ schedule_of w.turns ++ record { lane = lane; at = at } ∷ []
 unfolding turn_of
-turns_after w lane at reader s others actor =
-    map_push (λ (t : TurnDone). let u : Turn = record { lane = t.lane; at = t.at } in u) w.turns (record { lane = lane; at = at; stamp = next_stamp actor s; item = s.item })
+turns_after w lane at reader s others actor found =
+    map_push (λ (t : TurnDone). let u : Turn = record { lane = t.lane; at = t.at } in u) w.turns (record { lane = lane; at = at; stamp = next_stamp actor s found; item = s.item })
 
 -- the turn is one more turn of the schedule
 pub turn_scheduled : (w : WorldState) (lane at : ℕ) (s : Stamped) (others : List Stamped) → IsWired w → waiting w lane ≡ s ∷ others
     → schedule_of (turn w lane at).turns ≡ schedule_of w.turns ++ record { lane = lane; at = at } ∷ []
 turn_scheduled w lane at s others wired e =
     let t = took w lane at s others wired e in
-    ap (λ v. schedule_of v.turns) t.is ∙ turns_after w lane at t.reader s others t.actor
+    ap (λ v. schedule_of v.turns) t.is ∙ turns_after w lane at t.reader s others t.actor t.found

@@ -1,5 +1,8 @@
 pub mod Roles
 pub mod Wires
+pub mod Desk
+pub mod Actors
+pub mod Answers
 pub mod Phases
 pub mod World
 pub mod Weight
@@ -10,3 +13,4 @@ pub mod Records
 pub mod Small
 pub mod Wired
 pub mod Ends
+pub mod Fronts

@@ -4,13 +4,13 @@ use Rattle.or_actor.specs.declared.output.Output.{Output}
 use Rattle.or_actor.specs.declared.output.Output.TheVariants.{To}
 use Rattle.net_scenario.specs.declared.declared.LinkDecl.{LinkDecl}
 use Rattle.net_scenario.specs.declared.command.Command.{Command}
-use Rattle.net_scenario.specs.declared.command.Command.TheVariants.{Settle, Tick, Set, Sync, Restart, Up, Down, Script}
+use Rattle.net_scenario.specs.declared.command.Command.TheVariants.{Settle, Tick, Set, Sync, Restart, Up, Down, Script, Get}
 use Rattle.net_scenario.specs.Scenario.{Laboratory}
 use Rattle.net_record.specs.declared.role.NodeModule.TheVariants.{Store, Desk}
 use Rattle.net_record.specs.declared.role.Role.{Role}
 use Rattle.net_record.specs.declared.role.Role.TheVariants.{Driver, Node, Link}
 use Rattle.net_record.specs.declared.phase.Phase.{Phase}
-use Rattle.net_record.specs.Roles.{roles, number_of, is_store_of, is_link}
+use Rattle.net_record.specs.Roles.{roles, number_of, is_store_of, is_desk_of, is_link}
 
 -- an Up for each link, of which the first has the number given
 abbrev pub ups : List Role → ℕ → List LinkDecl → List Output
@@ -39,6 +39,7 @@ issues_of all (Restart node) = To (number_of (is_store_of node) 0 all) item.Rest
 issues_of all (Up link) = To (number_of (is_link link) 0 all) item.Up ∷ []
 issues_of all (Down link) = To (number_of (is_link link) 0 all) item.Down ∷ []
 issues_of all (Script link from acts) = To (number_of (is_link link) 0 all) (item.Script from acts) ∷ []
+issues_of all (Get node key) = To (number_of (is_desk_of node) 0 all) (item.Get key) ∷ []
 issues_of all _ = []
 
 -- the moment after a command

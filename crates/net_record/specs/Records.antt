@@ -11,7 +11,7 @@ use Rattle.net_record.specs.Rounds.{Ended}
 -- the journal of an actor that is a store
 abbrev pub journal_of : Part → List (List JournalEntry)
 journal_of Driver = []
-journal_of Desk = []
+journal_of (Desk d) = []
 journal_of (Link s) = []
 journal_of (Store s) = s.journal ∷ []
 

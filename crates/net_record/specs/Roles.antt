@@ -28,6 +28,13 @@ is_store_of name (Node Store node) = bytes_eq node name
 is_store_of name (Node Desk node) = false
 is_store_of name (Link link a b) = false
 
+-- the desk of the node with this name
+abbrev pub is_desk_of : List ℕ → Role → Bool
+is_desk_of name Driver = false
+is_desk_of name (Node Store node) = false
+is_desk_of name (Node Desk node) = bytes_eq node name
+is_desk_of name (Link link a b) = false
+
 -- the link with this number
 abbrev pub is_link : ℕ → Role → Bool
 is_link number Driver = false

@@ -2,13 +2,18 @@ use Rattle.std.specs.Prelude.{ℕ, zero, suc, ◌+◌, List, [], ◌∷◌, ◌+
 use Rattle.net_scenario.specs.Scenario.{Laboratory}
 use Rattle.net_record.specs.declared.phase.Phase.{Phase}
 use Rattle.net_record.specs.Phases.{phases}
-use Rattle.net_record.specs.World.{WorldState, start, turn, is_drained, issued, settled}
+use Rattle.net_record.specs.Answers.{desks_asked}
+use Rattle.net_record.specs.World.{WorldState, start, turn, range, is_drained, issued, settled}
 use Rattle.net_record.specs.Budget.{is_over}
+
+-- the length that the turn of a lane finds in a round: the greatest that it may find
+abbrev pub longest : WorldState → ℕ → ℕ
+longest w lane = (range w lane).most
 
 -- so many turns of a lane, or fewer where the budget is passed
 abbrev pub turns_on : WorldState → ℕ → ℕ → WorldState
 turns_on w lane zero = w
-turns_on w lane (suc count) = if is_over w then w else turns_on (turn w lane 0) lane count
+turns_on w lane (suc count) = if is_over w then w else turns_on (turn w lane (longest w lane)) lane count
 
 -- so many turns of each lane, from this one on
 abbrev pub round_from : WorldState → ℕ → List ℕ → WorldState
@@ -44,7 +49,7 @@ phase_of m phase = rounds_of (record { world = issued m.world phase.issues; mark
 
 -- what a settle makes of the rounds of a phase
 abbrev pub settle_of : Phase → Marked → Marked
-settle_of phase m = record { world = settled phase.moment m.world; marks = m.marks }
+settle_of phase m = record { world = settled phase.moment (desks_asked phase.issues) m.world; marks = m.marks }
 
 -- The rounds of phases, of which the first has the number given. A phase is unsettled where an item still waits after its
 -- last round or the budget is passed, also by its settle, and nothing is done after it.

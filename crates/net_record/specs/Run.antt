@@ -1,10 +1,12 @@
-use Rattle.std.specs.Prelude.{◌≡◌, ℕ, List, [], ◌∷◌, length, map, Bool, true, false, not, ◌&&◌, ◌==◌, if◌then◌else◌, Result, Ok, Err, None}
+use Rattle.std.specs.Prelude.{◌≡◌, ℕ, List, [], ◌∷◌, length, map, Bool, true, false, not, ◌&&◌, nat_le, if◌then◌else◌, Result, Ok, Err, None}
 use Rattle.or_base.specs.declared.item.TurnDone.{TurnDone}
 use Rattle.net_scenario.specs.Scenario.{Laboratory}
 use Rattle.net_scenario.specs.declared.schedule.Turn.{Turn}
 use Rattle.net_record.specs.declared.phase.Phase.{Phase}
 use Rattle.net_record.specs.Phases.{phases}
-use Rattle.net_record.specs.World.{WorldState, start, turn, waiting, is_empty, is_drained, issued, settled}
+use Rattle.net_record.specs.Actors.{Range}
+use Rattle.net_record.specs.Answers.{desks_asked}
+use Rattle.net_record.specs.World.{WorldState, start, turn, range, waiting, is_empty, is_drained, issued, settled}
 use Rattle.net_record.specs.Rounds.{round_robin}
 
 -- a world, and the phases that haven't settled; the first of these has begun
@@ -21,12 +23,15 @@ begun w (phase ∷ phases) = issued w phase.issues
 abbrev pub advance : WorldState → List Phase → Progress
 advance w [] = record { world = w; unsettled = [] }
 advance w (phase ∷ phases) =
-    if is_drained w then advance (begun (settled phase.moment w) phases) phases else record { world = w; unsettled = phase ∷ phases }
+    if is_drained w then advance (begun (settled phase.moment (desks_asked phase.issues) w) phases) phases else record { world = w; unsettled = phase ∷ phases }
 
--- A turn is legal where an item waits on its lane and its length is in range: only a desk finds a length, and no item
--- for a desk is given out yet, so it is 0.
+abbrev pub is_within : Range → ℕ → Bool
+is_within r at = nat_le r.least at && nat_le at r.most
+
+-- A turn is legal where an item waits on its lane and its length is one that it may find: only a desk finds a length, and
+-- that of every other turn is 0.
 abbrev pub is_legal : WorldState → Turn → Bool
-is_legal w t = not (is_empty (waiting w t.lane)) && t.at == 0
+is_legal w t = not (is_empty (waiting w t.lane)) && is_within (range w t.lane) t.at
 
 abbrev pub is_open : List Phase → Bool
 is_open [] = false

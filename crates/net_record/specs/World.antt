@@ -1,24 +1,24 @@
+-- The world: the actors and the lanes among them, and what a turn, the issues of a phase and a settle make of it.
 use Rattle.std.specs.Prelude.{ℕ, ◌+◌, max, List, [], ◌∷◌, ◌++◌, length, drop, map, Option, Some, None, Bool, true, false, ◌&&◌, ◌==◌, if◌then◌else◌, slice_get, slice_set, slice_index_or, replicate}
 use Rattle.std.specs.List.{list_all, flat_map}
-use Rattle.or_base.specs.declared.item.Item.{Item}
 use Rattle.or_base.specs.declared.item.Stamped.{Stamped}
 use Rattle.or_base.specs.declared.item.TurnDone.{TurnDone}
 use Rattle.or_actor.specs.declared.output.Output.{Output}
 use Rattle.or_actor.specs.declared.output.Output.TheVariants.{To}
-use Rattle.kv_store.specs.Store.{new_store, store_step}
-use Rattle.net_link.specs.Link.{new_link, link_step}
 use Rattle.net_scenario.specs.Scenario.{Laboratory}
-use Rattle.net_record.specs.declared.role.NodeModule.TheVariants.{Store as StoreRole, Desk as DeskRole}
 use Rattle.net_record.specs.declared.role.Role.{Role}
-use Rattle.net_record.specs.declared.role.Role.TheVariants.{Driver as DriverRole, Node, Link as LinkRole}
 use Rattle.net_record.specs.declared.wire.Wire.{Wire}
 use Rattle.net_record.specs.declared.part.Part.{Part}
 use Rattle.net_record.specs.declared.part.Part.TheVariants.{Driver, Store, Desk, Link}
 use Rattle.net_record.specs.declared.actor.ActorState.{ActorState}
+use Rattle.net_record.specs.declared.lookup.Look.{Look}
+use Rattle.net_record.specs.declared.record.AnswerDone.{AnswerDone}
 use Rattle.net_record.specs.declared.record.NodeMark.{NodeMark}
 use Rattle.net_record.specs.declared.record.SettleDone.{SettleDone}
 use Rattle.net_record.specs.Roles.{roles}
 use Rattle.net_record.specs.Wires.{wires}
+use Rattle.net_record.specs.Actors.{new_actor, store_before, entries_of, asked_of, look, Range, range_for, next_stamp, actor_after, outputs_of, settled_actors}
+use Rattle.net_record.specs.Answers.{given}
 
 -- The lanes and, for each, the items that wait on it, the oldest first; the actors; the turns and the settles done.
 -- A lane is an unbounded list.
@@ -29,16 +29,6 @@ pub record WorldState : Type 0 where
   pub turns : List TurnDone
   pub settles : List SettleDone
 
--- the module of an actor as it starts
-abbrev pub new_part : Role → Part
-new_part DriverRole = Driver
-new_part (Node StoreRole node) = Store (new_store node)
-new_part (Node DeskRole node) = Desk
-new_part (LinkRole link a b) = Link (new_link link a b)
-
-abbrev pub new_actor : Role → ActorState
-new_actor role = record { part = new_part role; clock = 0; told = 0 }
-
 -- the world of these actors before anything is done
 abbrev pub world_of : List Role → WorldState
 world_of all =
@@ -47,25 +37,6 @@ world_of all =
 -- the world of a laboratory before anything is done
 abbrev pub start : Laboratory → WorldState
 start lab = world_of (roles lab)
-
--- one turn of an actor's module: its state after it, and what it sends; the driver and the desks do nothing
-unfoldable pub part_step : Part → Item → Part × List Output
-part_step Driver item = (Driver, [])
-part_step Desk item = (Desk, [])
-part_step (Store s) item = let after = store_step s item in (Store after.0, after.1)
-part_step (Link s) item = let after = link_step s item in (Link after.0, after.1)
-
--- the stamp of an actor's turn with an item: one more than the greater of the item's stamp and the actor's clock
-abbrev pub next_stamp : ActorState → Stamped → ℕ
-next_stamp actor s = max s.stamp actor.clock + 1
-
--- an actor after its turn with an item
-unfoldable pub actor_after : ActorState → Stamped → ActorState
-actor_after actor s = record { part = (part_step actor.part s.item).0; clock = next_stamp actor s; told = actor.told }
-
--- what an actor sends in its turn with an item
-unfoldable pub outputs_of : ActorState → Item → List Output
-outputs_of actor item = (part_step actor.part item).1
 
 -- the lane of a writer's port, if there is one, where the first of these lanes has the number given
 abbrev pub lane_from : ℕ → List Wire → ℕ → ℕ → Option ℕ
@@ -84,14 +55,14 @@ delivered wires writer stamp lanes [] = lanes
 delivered wires writer stamp lanes (To port item ∷ outputs) =
     delivered wires writer stamp (put lanes (lane_from 0 wires writer port) (record { stamp = stamp; item = item })) outputs
 
--- the world after the turn of an actor with an item, which leaves these items on the lane
-unfoldable pub turn_of : WorldState → ℕ → ℕ → ℕ → Stamped → List Stamped → ActorState → WorldState
-turn_of w lane at reader s others actor =
+-- the world after the turn of an actor with an item, which found this and leaves these items on the lane
+unfoldable pub turn_of : WorldState → ℕ → ℕ → ℕ → Stamped → List Stamped → ActorState → Look → WorldState
+turn_of w lane at reader s others actor found =
     record {
       wires = w.wires;
-      lanes = delivered w.wires reader (next_stamp actor s) (slice_set w.lanes lane others) (outputs_of actor s.item);
-      actors = slice_set w.actors reader (actor_after actor s);
-      turns = w.turns ++ record { lane = lane; at = at; stamp = next_stamp actor s; item = s.item } ∷ [];
+      lanes = delivered w.wires reader (next_stamp actor s found) (slice_set w.lanes lane others) (outputs_of actor s.item at found);
+      actors = slice_set w.actors reader (actor_after actor s at found);
+      turns = w.turns ++ record { lane = lane; at = at; stamp = next_stamp actor s found; item = s.item } ∷ [];
       settles = w.settles;
     }
 
@@ -99,7 +70,7 @@ turn_of w lane at reader s others actor =
 abbrev pub turn_by : WorldState → ℕ → ℕ → ℕ → List Stamped → Option ActorState → WorldState
 turn_by w lane at reader [] actor = w
 turn_by w lane at reader (s ∷ others) None = w
-turn_by w lane at reader (s ∷ others) (Some actor) = turn_of w lane at reader s others actor
+turn_by w lane at reader (s ∷ others) (Some actor) = turn_of w lane at reader s others actor (look w.actors reader actor.part at s.item)
 
 -- the reader of a lane
 abbrev pub reader_of : Option Wire → ℕ
@@ -110,12 +81,25 @@ reader_of (Some wire) = wire.reader
 abbrev pub waiting : WorldState → ℕ → List Stamped
 waiting w lane = slice_index_or w.lanes lane []
 
--- The turn of a lane: its reader takes the front item, and what it sends is put on the lanes of its ports. A lane on
--- which no item waits leaves the world as it is.
+-- The turn of a lane, in which a desk finds so many entries: the lane's reader takes the front item, and what it sends is put
+-- on the lanes of its ports. A lane on which no item waits leaves the world as it is.
 unfoldable pub turn : WorldState → ℕ → ℕ → WorldState
 turn w lane at =
     let reader = reader_of (slice_get w.wires lane) in
     turn_by w lane at reader (waiting w lane) (slice_get w.actors reader)
+
+-- the lengths that the turn of an actor with the front one of these items may find
+abbrev pub range_by : List ActorState → ℕ → List Stamped → Option ActorState → Range
+range_by actors reader [] actor = record { least = 0; most = 0 }
+range_by actors reader (s ∷ others) None = record { least = 0; most = 0 }
+range_by actors reader (s ∷ others) (Some actor) =
+    range_for actor.part (entries_of (store_before actors reader).part) (asked_of actor.part s.item)
+
+-- the lengths that the turn of a lane may find
+unfoldable pub range : WorldState → ℕ → Range
+range w lane =
+    let reader = reader_of (slice_get w.wires lane) in
+    range_by w.actors reader (waiting w lane) (slice_get w.actors reader)
 
 abbrev pub is_empty : List Stamped → Bool
 is_empty [] = true
@@ -142,7 +126,7 @@ greatest_clock (actor ∷ actors) = max actor.clock (greatest_clock actors)
 -- count of stale messages, and the full syncs that it started and that were finished since then. No route is made yet.
 abbrev pub mark_of : Part → ℕ → List NodeMark
 mark_of Driver told = []
-mark_of Desk told = []
+mark_of (Desk d) told = []
 mark_of (Link s) told = []
 mark_of (Store s) told =
     record { entries = length s.journal; stale = s.stale; syncs = drop told s.done; routes = []; fib_dirty = false; fib_routes = 0 } ∷ []
@@ -150,28 +134,19 @@ mark_of (Store s) told =
 abbrev pub marks_of : List ActorState → List NodeMark
 marks_of actors = flat_map (λ actor. mark_of actor.part actor.told) actors
 
--- what a settle at a moment tells; no command that runs asks, so there are no answers
-abbrev pub settle_done : ℕ → WorldState → SettleDone
-settle_done moment w = record { turns = length w.turns; moment = moment; nodes = marks_of w.actors; answers = [] }
+-- what a settle at a moment tells, with these answers
+abbrev pub settle_done : ℕ → WorldState → List AnswerDone → SettleDone
+settle_done moment w answers = record { turns = length w.turns; moment = moment; nodes = marks_of w.actors; answers = answers }
 
--- how many full syncs that it started were finished, where it is a store
-abbrev pub finished_by : Part → ℕ
-finished_by Driver = 0
-finished_by Desk = 0
-finished_by (Link s) = 0
-finished_by (Store s) = length s.done
-
--- an actor after a settle, which sets its clock and tells of all full syncs that it finished
-abbrev pub settled_actor : ℕ → ActorState → ActorState
-settled_actor clock actor = record { part = actor.part; clock = clock; told = finished_by actor.part }
-
--- a phase ends at a moment: the settle is recorded, and every clock becomes one more than the greatest
-unfoldable pub settled : ℕ → WorldState → WorldState
-settled moment w =
+-- A phase ends at a moment, in which these desks were asked: the settle is recorded, with an answer of each in this order. Every
+-- clock becomes one more than the greatest, and every desk has seen its store's journal.
+unfoldable pub settled : ℕ → List ℕ → WorldState → WorldState
+settled moment asked w =
+    let giving = given (record { actors = w.actors; answers = [] }) asked in
     record {
       wires = w.wires;
       lanes = w.lanes;
-      actors = map (settled_actor (greatest_clock w.actors + 1)) w.actors;
+      actors = settled_actors (greatest_clock w.actors + 1) 0 giving.actors;
       turns = w.turns;
-      settles = w.settles ++ settle_done moment w ∷ [];
+      settles = w.settles ++ settle_done moment w giving.answers ∷ [];
     }

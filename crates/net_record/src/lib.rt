@@ -8,15 +8,22 @@
 //! `rounds_are_a_run` promises that it is a run like any other.
 //!
 //! All that depends on which modules there are stands here, and nothing above this layer names a single module:
-//! `part` (the module of an actor), `actor`, `role` and `numbering` (what the actors are), `wiring`, `phasing`,
-//! `record` (what was done) and `stores` (what a record tells of the stores).
+//! `part` (the module of an actor), `actor`, `desk` (answers questions), `lookup` and `finding` (what a desk finds in the
+//! store of its node), `role` and `numbering` (what the actors are), `wiring`, `phasing`, `answers` (which desks a phase
+//! asks), `record` (what was done) and `stores` (what a record tells of the stores). `weight` and `budget` say how much a
+//! run may do.
 #![tactic(auto)]
 
 ghost use Rattle.net_record.specs.Run.{RoundsAreARun};
 ghost use Rattle.net_record.specs.Ends.{SettledRoundsEndDrained};
+ghost use Rattle.net_record.specs.Fronts.{SettlesTellStores};
 
 mod actor;
+mod answers;
 mod budget;
+mod desk;
+mod finding;
+mod lookup;
 mod numbering;
 mod part;
 mod phase;
@@ -29,7 +36,11 @@ mod wire;
 mod wiring;
 
 pub use actor::{ActorState, Sent};
+pub use answers::desks_asked;
 pub use budget::{MOST_TURNS, MOST_WEIGHT};
+pub use desk::Desk;
+pub use finding::{longest, look};
+pub use lookup::{Look, Stamps};
 pub use numbering::{MOST_ACTORS, roles};
 pub use part::Part;
 pub use phase::Phase;
@@ -53,4 +64,10 @@ pub fn rounds_are_a_run()
 /// Where round robin settles every phase of a laboratory, no item waits at its end, and each phase has its settle.
 pub fn settled_rounds_end_drained()
     ensures { SettledRoundsEndDrained }
+{}
+
+/// In a run by round robin each settle tells of each store as many entries as its journal has then, and these are the first
+/// of the journal that the record has.
+pub fn settles_tell_stores()
+    ensures { SettlesTellStores }
 {}

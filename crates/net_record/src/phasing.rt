@@ -3,7 +3,7 @@ ghost use Rattle.or_base.specs.declared.item.Item.TheVariants.{Tick};
 ghost use Rattle.or_actor.specs.declared.output.Output.TheVariants.{To};
 ghost use Rattle.or_actor.specs.Fits.{has_small_link, have_small_links};
 ghost use Rattle.net_scenario.specs.Small.{NamesSmallLink};
-ghost use Rattle.net_record.specs.Roles.{roles, number_of, is_store_of, is_link};
+ghost use Rattle.net_record.specs.Roles.{roles, number_of, is_store_of, is_desk_of, is_link};
 ghost use Rattle.net_record.specs.Phases.{ups, takes_ticks, ticks, issues_of, moment_after, phases_from, phases};
 ghost use Rattle.net_record.specs.Small.{IssuesSmallLinks};
 
@@ -28,6 +28,19 @@ fn is_store_of(name: &Name, role: &Role) -> bool
     }
 }
 
+/// The actor is the desk of the node with this name.
+fn is_desk_of(name: &Name, role: &Role) -> bool
+    ensures { result ≡ is_desk_of name.now role.now }
+{
+    match role {
+        Role::Node {
+            module: NodeModule::Desk,
+            node,
+        } => node.as_str() == name.as_str(),
+        _ => false,
+    }
+}
+
 /// The actor is the link with this number.
 fn is_link(number: u32, role: &Role) -> bool
     ensures { result ≡ is_link number role.now }
@@ -45,6 +58,19 @@ fn store_number(all: &[Role], name: &Name) -> u32
 {
     for (number, role) in all.iter().enumerate() {
         if is_store_of(name, role) {
+            return number as u32;
+        }
+    }
+    all.len() as u32
+}
+
+/// The number of a node's desk.
+fn desk_number(all: &[Role], name: &Name) -> u32
+    requires { length all.now ≤ 385 }
+    ensures { result ≡ number_of (is_desk_of name.now) 0 all.now }
+{
+    for (number, role) in all.iter().enumerate() {
+        if is_desk_of(name, role) {
             return number as u32;
         }
     }
@@ -156,6 +182,10 @@ fn add_issues(issues: &mut Vec<Output>, all: &[Role], command: &Command) -> Resu
             let from = from.copied()?;
             let acts = acts.copied()?;
             add_to(issues, link_number(all, *link), Item::Script { from, acts })?;
+        }
+        Command::Get { node, key } => {
+            let key = key.copied()?;
+            add_to(issues, desk_number(all, node), Item::Get { key })?;
         }
         // The program runs no other command yet.
         _other => {}

@@ -1,4 +1,7 @@
 pub mod Staying
+pub mod Clocked
+pub mod Acted
+pub mod Settled
 pub mod Soundness
 pub mod Ported
 pub mod Busied

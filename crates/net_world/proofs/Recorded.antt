@@ -6,6 +6,7 @@ use Rattle.net_record.specs.Rounds.{round_robin}
 use Rattle.net_record.specs.Run.{run, schedule_of, RoundsAreARun}
 use Rattle.net_record.specs.Records.{IsSettled, IsRecordOf}
 use Rattle.net_record.specs.Ends.{EndsDrained, SettledRoundsEndDrained}
+use Rattle.net_record.specs.Fronts.{TellStores, SettlesTellStores, worlds_settled}
 
 -- the record is that of the run under the schedule of its own turns
 pub recorded_run : (lab : Laboratory) (done : Record) → RoundsAreARun → IsSettled (round_robin lab) done → IsRecordOf (run lab (schedule_of done.turns)) done
@@ -18,4 +19,9 @@ recorded_run lab done law settled =
 pub recorded_end : (lab : Laboratory) (done : Record) → SettledRoundsEndDrained → IsSettled (round_robin lab) done → EndsDrained lab
 recorded_end lab done law settled = law lab settled.settled
 
-pub ruleset recorded = (recorded_run, recorded_end)
+-- what its settles tell of the stores
+pub recorded_stores : (lab : Laboratory) (done : Record) → SettlesTellStores → IsSettled (round_robin lab) done → TellStores (worlds_settled lab) done.settles done.journals
+recorded_stores lab done law settled =
+    subst (λ (d : Record). TellStores (worlds_settled lab) d.settles d.journals) (sym settled.all) (law lab)
+
+pub ruleset recorded = (recorded_run, recorded_end, recorded_stores)

@@ -3,11 +3,11 @@ use Rattle.std.proofs.Common.{◌≡◌, ℕ, suc, ◌+◌, ◌-◌, ◌<◌, Li
 use Rattle.net_record.specs.declared.phase.Phase.{Phase}
 use Rattle.net_record.specs.World.{WorldState, turn, is_drained}
 use Rattle.net_record.specs.Budget.{is_over}
-use Rattle.net_record.specs.Rounds.{Marked, Ended, turns_on, rounds_of, after_round, phase_of, settle_of, rounds_from}
+use Rattle.net_record.specs.Rounds.{Marked, Ended, longest, turns_on, rounds_of, after_round, phase_of, settle_of, rounds_from}
 use Rattle.net_world.specs.Settling.{after_phase, settles_phase}
 
 -- one of so many turns
-pub turns_step : (w : WorldState) (lane count done : ℕ) → done < count → is_over w ≡ false → turns_on (turn w lane 0) lane (count - (done + 1)) ≡ turns_on w lane (count - done)
+pub turns_step : (w : WorldState) (lane count done : ℕ) → done < count → is_over w ≡ false → turns_on (turn w lane (longest w lane)) lane (count - (done + 1)) ≡ turns_on w lane (count - done)
 turns_step w lane count done h within = let e : count - done ≡ suc (count - (done + 1)) = omega arith in rw (e, within) refl
 
 -- no turn more, since the budget is passed

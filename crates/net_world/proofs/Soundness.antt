@@ -1,9 +1,9 @@
 -- A world starts sound, and its turns, issues and settles keep it so.
-use Rattle.std.proofs.Common.{◌≡◌, ℕ, ◌+◌, ◌<◌, ◌≤◌, ◌^◌, inl, inr, List, [], ◌∷◌, false, length, map, get_or, set, replicate, refl, sym, ap, ◌∙◌, subst, arith, length-set}
-use Rattle.std.specs.Prelude.{All}
+use Rattle.std.proofs.Common.{◌≡◌, ℕ, suc, ◌+◌, ◌<◌, ◌≤◌, ◌^◌, inl, inr, List, [], ◌∷◌, Some, false, length, map, get_or, set, replicate, refl, sym, ap, ◌∙◌, subst, arith, length-set}
+use Rattle.std.specs.Prelude.{All, slice_get}
 use Rattle.std.proofs.lemmas.Bool.{cases_lt, false≢true}
 use Rattle.std.proofs.lemmas.List.{length-map, length-replicate, get_or_past}
-use Rattle.std.proofs.lemmas.List.Elements.{All-nil, All-set, All-get_or, All-same, All-head, All-tail, All-weaker, All-replicate, All-map}
+use Rattle.std.proofs.lemmas.List.Elements.{All-nil, All-cons, All-set, All-get_or, All-same, All-head, All-tail, All-weaker, All-replicate, All-map}
 use Rattle.or_base.specs.declared.item.Stamped.{Stamped}
 use Rattle.or_base.specs.declared.item.TurnDone.{TurnDone}
 use Rattle.net_record.specs.declared.role.Role.{Role}
@@ -11,8 +11,11 @@ use Rattle.net_record.specs.declared.wire.Wire.{Wire}
 use Rattle.net_record.specs.declared.actor.ActorState.{ActorState}
 use Rattle.net_record.specs.declared.record.SettleDone.{SettleDone}
 use Rattle.net_record.specs.Wired.{IsReadBelow, IsWired}
-use Rattle.net_record.specs.World.{WorldState, is_empty, new_actor, actor_after, next_stamp, driver_clock, greatest_clock, settled_actor}
-use Rattle.net_world.specs.Sound.{IsSoundItem, IsSoundLane, IsClockedBelow, StaySound, IsSound, done_in}
+use Rattle.net_record.specs.Actors.{new_actor, entries_of, settled_actor, settled_actors}
+use Rattle.net_record.specs.World.{WorldState, is_empty, driver_clock, greatest_clock}
+use Rattle.net_world.specs.Acting.{actors_after, stamp_by}
+use Rattle.net_world.proofs.Acted.{clocks_weaker, stamp_most, length-after, clocks_after}
+use Rattle.net_world.specs.Sound.{IsSoundItem, IsSoundLane, IsAtMost, IsClockedBelow, StaySound, StayClocked, IsSound, done_in}
 
 -- what is sound up to a bound is so up to a greater one
 pub lanes_weaker : (m n : ℕ) (lanes : List (List Stamped)) → m ≤ n → All (IsSoundLane m) lanes → All (IsSoundLane n) lanes
@@ -20,15 +23,20 @@ lanes_weaker m n lanes h =
     All-weaker (IsSoundLane m) (IsSoundLane n)
     (λ items. All-weaker (IsSoundItem m) (IsSoundItem n) (λ s sound. (omega (arith, sound.0), sound.1)) items) lanes
 
-pub clocks_weaker : (m n : ℕ) (actors : List ActorState) → m ≤ n → All (IsClockedBelow m) actors → All (IsClockedBelow n) actors
-clocks_weaker m n actors h = All-weaker (IsClockedBelow m) (IsClockedBelow n) (λ actor below. omega (arith, below)) actors
-
 -- a lane on which an item waits is there
 pub within_waiting : (lanes : List (List Stamped)) (lane : ℕ) → is_empty (get_or lanes lane []) ≡ false → lane < length lanes
 within_waiting lanes lane waits =
     elim (cases_lt lane (length lanes)) [
       | inl within ↦ within
       | inr past ↦ absurd (false≢true (sym waits ∙ ap is_empty (get_or_past lanes lane [] past)))
+    ]
+
+-- and so is one on which this item waits longest
+pub within_front : (lanes : List (List Stamped)) (lane : ℕ) (s : Stamped) → Some s ≡ slice_get (get_or lanes lane []) 0 → lane < length lanes
+within_front lanes lane s first =
+    elim (cases_lt lane (length lanes)) [
+      | inl within ↦ within
+      | inr past ↦ cc (first ∙ ap (λ items. slice_get items 0) (get_or_past lanes lane [] past))
     ]
 
 -- the items of one lane
@@ -66,11 +74,6 @@ sound_with w most lanes actors turns settles sound e h n items clocks = record {
   clocks = subst (λ m. All (IsClockedBelow m) actors) n clocks;
 }
 
--- the clock of an actor
-pub clock_below : (w : WorldState) (reader : ℕ) (actor : ActorState) → IsSound w → reader < length w.actors → actor ≡ get_or w.actors reader actor → actor.clock ≤ done_in w
-clock_below w reader actor sound there at =
-    subst (λ (a : ActorState). a.clock ≤ done_in w) (sym at) (All-get_or (IsClockedBelow (done_in w)) w.actors reader actor there sound.clocks)
-
 -- the reader of a lane
 pub reader_there : (w : WorldState) (lane reader : ℕ) (d : Wire) → IsSound w → lane < length w.lanes → reader ≡ (get_or w.wires lane d).reader → reader < length w.actors
 reader_there w lane reader d sound within is =
@@ -85,41 +88,33 @@ sound_left w lane s others lanes turns sound e left n =
     sound_with w (done_in w) lanes w.actors turns w.settles sound (ap length left ∙ length-set w.lanes lane others) refl (omega arith)
     (All-same (IsSoundLane (done_in w)) lanes (set w.lanes lane others) left (left_sound (done_in w) lane w.lanes s others e sound.items)) sound.clocks
 
--- the same, with another actor of the same clock
-pub sound_kept : (w : WorldState) (lane reader : ℕ) (s : Stamped) (others : List Stamped) (lanes : List (List Stamped)) (turns : List TurnDone) (before after : ActorState) → IsSound w
-    → get_or w.lanes lane [] ≡ s ∷ others → lanes ≡ set w.lanes lane others → length turns ≡ length w.turns
-    → reader < length w.actors → before ≡ get_or w.actors reader before → after.clock ≡ before.clock
-    → IsSound (record { wires = w.wires; lanes = lanes; actors = set w.actors reader after; turns = turns; settles = w.settles })
-sound_kept w lane reader s others lanes turns before after sound e left n there at same =
-    let below : before.clock ≤ done_in w = clock_below w reader before sound there at in
-    sound_with w (done_in w) lanes (set w.actors reader after) turns w.settles sound (ap length left ∙ length-set w.lanes lane others) (length-set w.actors reader after) (omega arith)
+-- the same, with actors that kept their clocks
+pub sound_kept : (w : WorldState) (lane : ℕ) (s : Stamped) (others : List Stamped) (lanes : List (List Stamped)) (turns : List TurnDone) (actors : List ActorState) → IsSound w
+    → get_or w.lanes lane [] ≡ s ∷ others → lanes ≡ set w.lanes lane others → length turns ≡ length w.turns → StayClocked w.actors actors
+    → IsSound (record { wires = w.wires; lanes = lanes; actors = actors; turns = turns; settles = w.settles })
+sound_kept w lane s others lanes turns actors sound e left n stay =
+    sound_with w (done_in w) lanes actors turns w.settles sound (ap length left ∙ length-set w.lanes lane others) stay.len (omega (arith, n))
     (All-same (IsSoundLane (done_in w)) lanes (set w.lanes lane others) left (left_sound (done_in w) lane w.lanes s others e sound.items))
-    (All-set (IsClockedBelow (done_in w)) w.actors reader after (omega (arith, below, same)) sound.clocks)
-
-clock_after : (before : ActorState) (s : Stamped) → (actor_after before s).clock ≡ next_stamp before s
-unfolding actor_after
-clock_after before s = refl
+    (stay.clocks (done_in w) sound.clocks)
 
 -- the world after a turn
-pub sound_turned : (w : WorldState) (lane reader : ℕ) (s : Stamped) (others : List Stamped) (left lanes : List (List Stamped)) (turns : List TurnDone) (before after : ActorState) (stamp : ℕ)
+pub sound_turned : (w : WorldState) (lane reader : ℕ) (s : Stamped) (others : List Stamped) (left lanes : List (List Stamped)) (turns : List TurnDone) (actors : List ActorState) (at stamp : ℕ)
     → IsSound w → get_or w.lanes lane [] ≡ s ∷ others → left ≡ set w.lanes lane others → length turns ≡ length w.turns + 1
-    → reader < length w.actors → before ≡ get_or w.actors reader before → after ≡ actor_after before s → stamp ≡ next_stamp before s
+    → reader < length w.actors → actors ≡ actors_after w.actors reader s at → stamp ≡ stamp_by w.actors reader s at
     → length lanes ≡ length left → StaySound stamp left lanes
-    → IsSound (record { wires = w.wires; lanes = lanes; actors = set w.actors reader after; turns = turns; settles = w.settles })
-sound_turned w lane reader s others left lanes turns before after stamp sound e is n there at became stamped len stay =
-    let below : before.clock ≤ done_in w = clock_below w reader before sound there at in
+    → IsSound (record { wires = w.wires; lanes = lanes; actors = actors; turns = turns; settles = w.settles })
+sound_turned w lane reader s others left lanes turns actors at stamp sound e is n there became stamped len stay =
     let taken : IsSoundItem (done_in w) s = taken_sound (done_in w) lane w.lanes s others e sound.items in
-    let most : stamp ≤ done_in w + 1 = omega (arith, taken.0, below, stamped) in
-    let clock : after.clock ≤ done_in w + 1 = omega (arith, ap (λ (a : ActorState). a.clock) became, clock_after before s, most, stamped) in
+    let most : stamp ≤ done_in w + 1 = omega (arith, stamped, stamp_most (done_in w) w.actors reader s at there taken.0 sound.clocks) in
     let kept : All (IsSoundLane (done_in w)) left =
     All-same (IsSoundLane (done_in w)) left (set w.lanes lane others) is (left_sound (done_in w) lane w.lanes s others e sound.items)
     in
-    sound_with w (done_in w + 1) lanes (set w.actors reader after) turns w.settles sound (len ∙ ap length is ∙ length-set w.lanes lane others) (length-set w.actors reader after) (omega arith)
+    sound_with w (done_in w + 1) lanes actors turns w.settles sound (len ∙ ap length is ∙ length-set w.lanes lane others) (ap length became ∙ length-after w.actors reader s at) (omega (arith, n))
     (stay.sound (done_in w + 1) most (lanes_weaker (done_in w) (done_in w + 1) left (omega arith) kept))
-    (All-set (IsClockedBelow (done_in w + 1)) w.actors reader after clock (clocks_weaker (done_in w) (done_in w + 1) w.actors (omega arith) sound.clocks))
+    (All-same (IsClockedBelow (done_in w + 1)) actors (actors_after w.actors reader s at) became (clocks_after (done_in w) w.actors reader s at there taken.0 sound.clocks))
 
 new_clocks : (all : List Role) → All (IsClockedBelow 0) (map new_actor all)
-new_clocks all = All-map (IsClockedBelow 0) new_actor all (λ k d h. omega arith)
+new_clocks all = All-map (IsClockedBelow 0) new_actor all (λ k d h. (omega arith, All-nil (IsAtMost 0)))
 
 -- the world before anything is done
 pub sound_start : (wires : List Wire) (all : List Role) (lanes : List (List Stamped)) (actors : List ActorState) (turns : List TurnDone) (settles : List SettleDone)
@@ -137,7 +132,7 @@ sound_start wires all lanes actors turns settles few readers e h t s = record {
 
 driver_below : (n : ℕ) (actors : List ActorState) → All (IsClockedBelow n) actors → driver_clock actors ≤ n
 driver_below n [] all = omega arith
-driver_below n (driver ∷ others) all = All-head (IsClockedBelow n) driver others all
+driver_below n (driver ∷ others) all = (All-head (IsClockedBelow n) driver others all).0
 
 -- the world after items are issued
 pub sound_issued : (w : WorldState) (stamp : ℕ) (lanes : List (List Stamped)) → IsSound w → stamp ≡ driver_clock w.actors → length lanes ≡ length w.lanes → StaySound stamp w.lanes lanes
@@ -150,14 +145,33 @@ sound_issued w stamp lanes sound is len stay =
 pub greatest_below : (n : ℕ) (actors : List ActorState) → All (IsClockedBelow n) actors → greatest_clock actors ≤ n
 greatest_below n [] all = omega arith
 greatest_below n (actor ∷ actors) all =
-    omega (arith, All-head (IsClockedBelow n) actor actors all, greatest_below n actors (All-tail (IsClockedBelow n) actor actors all))
+    omega (arith, (All-head (IsClockedBelow n) actor actors all).0, greatest_below n actors (All-tail (IsClockedBelow n) actor actors all))
+
+-- the world in which desks gave their answers
+pub sound_given : (w : WorldState) (giving : List ActorState) (settles : List SettleDone) → IsSound w → StayClocked w.actors giving → length settles ≡ length w.settles
+    → IsSound (record { wires = w.wires; lanes = w.lanes; actors = giving; turns = w.turns; settles = settles })
+sound_given w giving settles sound stay n =
+    sound_with w (done_in w) w.lanes giving w.turns settles sound refl stay.len (omega (arith, n)) sound.items (stay.clocks (done_in w) sound.clocks)
+
+length-settled : (clock found : ℕ) (actors : List ActorState) → length (settled_actors clock found actors) ≡ length actors
+length-settled clock found [] = refl
+length-settled clock found (actor ∷ actors) = ap suc (length-settled clock (length (entries_of actor.part)) actors)
+
+clocks_settled : (most clock found : ℕ) (actors : List ActorState) → clock ≤ most → All (IsClockedBelow most) actors → All (IsClockedBelow most) (settled_actors clock found actors)
+clocks_settled most clock found [] h all = All-nil (IsClockedBelow most)
+clocks_settled most clock found (actor ∷ actors) h all =
+    All-cons (IsClockedBelow most) (settled_actor clock found actor) (settled_actors clock (length (entries_of actor.part)) actors)
+    (h, (All-head (IsClockedBelow most) actor actors all).1)
+    (clocks_settled most clock (length (entries_of actor.part)) actors h (All-tail (IsClockedBelow most) actor actors all))
 
 -- the world after a settle
-pub sound_settled : (w : WorldState) (clock : ℕ) (actors : List ActorState) (settles : List SettleDone) → IsSound w
-    → clock ≡ greatest_clock w.actors + 1 → actors ≡ map (settled_actor clock) w.actors → length settles ≡ length w.settles + 1
+pub sound_settled : (w : WorldState) (clock : ℕ) (giving actors : List ActorState) (settles : List SettleDone) → IsSound w
+    → clock ≡ greatest_clock w.actors + 1 → StayClocked w.actors giving → actors ≡ settled_actors clock 0 giving → length settles ≡ length w.settles + 1
     → IsSound (record { wires = w.wires; lanes = w.lanes; actors = actors; turns = w.turns; settles = settles })
-sound_settled w clock actors settles sound is set_to n =
-    sound_with w (done_in w + 1) w.lanes actors w.turns settles sound refl (ap length set_to ∙ length-map w.actors (settled_actor clock)) (omega arith)
-    (lanes_weaker (done_in w) (done_in w + 1) w.lanes (omega arith) sound.items)
-    (All-same (IsClockedBelow (done_in w + 1)) actors (map (settled_actor clock) w.actors) set_to
-    (All-map (IsClockedBelow (done_in w + 1)) (settled_actor clock) w.actors (λ k d h. omega (arith, is, greatest_below (done_in w) w.actors sound.clocks))))
+sound_settled w clock giving actors settles sound is stay set_to n =
+    let most = done_in w + 1 in
+    let kept = clocks_weaker (done_in w) most giving (omega arith) (stay.clocks (done_in w) sound.clocks) in
+    sound_with w most w.lanes actors w.turns settles sound refl (ap length set_to ∙ length-settled clock 0 giving ∙ stay.len) (omega (arith, n))
+    (lanes_weaker (done_in w) most w.lanes (omega arith) sound.items)
+    (All-same (IsClockedBelow most) actors (settled_actors clock 0 giving) set_to
+    (clocks_settled most clock 0 giving (omega (arith, is, greatest_below (done_in w) w.actors sound.clocks)) kept))

@@ -2,4 +2,5 @@ pub mod Ports
 pub mod Busy
 pub mod Settling
 pub mod Sound
+pub mod Acting
 pub mod Fault

@@ -13,12 +13,21 @@ IsSoundItem n s = (s.stamp ≤ n) × IsTrue (has_small_link s.item)
 abbrev pub IsSoundLane : ℕ → List Stamped → Type 0
 IsSoundLane n items = All (IsSoundItem n) items
 
+abbrev pub IsAtMost : ℕ → ℕ → Type 0
+IsAtMost n stamp = stamp ≤ n
+
+-- an actor's clock and the stamps of its journal's entries are at most n
 abbrev pub IsClockedBelow : ℕ → ActorState → Type 0
-IsClockedBelow n actor = actor.clock ≤ n
+IsClockedBelow n actor = (actor.clock ≤ n) × All (IsAtMost n) actor.made
 
 -- where lanes are sound up to a bound that the stamp keeps, they are so after items with the stamp are put on them
 pub record StaySound (stamp : ℕ) (before after : List (List Stamped)) : Type 0 where
   pub sound : (most : ℕ) → stamp ≤ most → All (IsSoundLane most) before → All (IsSoundLane most) after
+
+-- as many actors as before, with clocks and stamps that are at most what those before keep
+pub record StayClocked (before after : List ActorState) : Type 0 where
+  pub len : length after ≡ length before
+  pub clocks : (most : ℕ) → All (IsClockedBelow most) before → All (IsClockedBelow most) after
 
 -- how many turns and settles are done
 abbrev pub done_in : WorldState → ℕ

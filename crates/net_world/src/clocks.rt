@@ -1,5 +1,6 @@
-ghost use Rattle.std.specs.Prelude.{◌≡◌, map};
-ghost use Rattle.net_record.specs.World.{driver_clock, greatest_clock, settled_actor};
+ghost use Rattle.std.specs.Prelude.{◌≡◌};
+ghost use Rattle.net_record.specs.Actors.{settled_actors};
+ghost use Rattle.net_record.specs.World.{driver_clock, greatest_clock};
 
 use net_record::ActorState;
 
@@ -24,11 +25,16 @@ pub fn greatest_clock(actors: &[ActorState]) -> u64
     greatest
 }
 
-/// A settle: it sets the clock of each actor, and tells of the full syncs that each finished.
-pub fn set_clocks(actors: &mut Vec<ActorState>, clock: u64)
-    ensures { actors.new.items ≡ map (settled_actor clock) actors.old.items }
+/// A settle: it sets the clock of each actor, tells of the full syncs that each finished, and lets each desk see the whole
+/// journal of the store before it.
+pub fn settle_all(actors: &mut Vec<ActorState>, clock: u64)
+    ensures { actors.new.items ≡ settled_actors clock 0 actors.old.items }
 {
+    let mut found = 0;
     for number in 0..actors.len() {
-        actors[number].settle(clock);
+        let actor = &mut actors[number];
+        let entries = actor.part.entry_count() as u64;
+        actor.settle(clock, found);
+        found = entries;
     }
 }

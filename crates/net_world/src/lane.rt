@@ -1,4 +1,5 @@
-ghost use Rattle.std.specs.Prelude.{◌≡◌, [], ◌∷◌, ◌++◌, ◌<◌, length, OnOk, OnErr};
+ghost use Rattle.std.specs.Prelude.{◌≡◌, [], ◌∷◌, ◌++◌, ◌<◌, length, slice_get, OnOk, OnErr};
+ghost use Rattle.std.specs.Option.{option_map};
 
 use or_base::{NoMemory, Stamped};
 use std::alloc::Global;
@@ -44,6 +45,13 @@ impl Lane {
         ensures { result ≡ is_empty self.now }
     {
         self.items.is_empty()
+    }
+
+    /// The item that waits longest, if there is one. It takes no memory.
+    pub fn front(&self) -> Option<&Stamped>
+        ensures { option_map (λ item. item.now) result ≡ slice_get self.now 0 }
+    {
+        self.items.front()
     }
 
     /// The item waits behind the others. Where memory runs out the lane stays as it was.

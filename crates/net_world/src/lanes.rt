@@ -1,6 +1,7 @@
 //! The items that wait on every lane.
 
-ghost use Rattle.std.specs.Prelude.{◌≡◌, ◌<◌, [], ◌∷◌, ◌++◌, IsTrue, not, replicate, drop, length, slice_index_or, slice_set, IfOk, OnOk, OnErr};
+ghost use Rattle.std.specs.Prelude.{◌≡◌, ◌<◌, [], ◌∷◌, ◌++◌, IsTrue, not, replicate, drop, length, slice_index_or, slice_get, slice_set, IfOk, OnOk, OnErr};
+ghost use Rattle.std.specs.Option.{option_map};
 ghost use Rattle.net_world.specs.Busy.{AreBusy, busy_lanes, marked, unmarked};
 
 use crate::lane::Lane;
@@ -105,6 +106,16 @@ impl Lanes {
         match self.lanes.as_slice().get(lane) {
             Some(items) => items.is_empty(),
             None => true,
+        }
+    }
+
+    /// The item that waits longest on the lane, if there is such a lane and such an item. It takes no memory.
+    pub fn front(&self, lane: usize) -> Option<&Stamped>
+        ensures { option_map (λ item. item.now) result ≡ slice_get (slice_index_or self.now lane []) 0 }
+    {
+        match self.lanes.as_slice().get(lane) {
+            Some(items) => items.front(),
+            None => None,
         }
     }
 

@@ -9,9 +9,11 @@
 //! (`specs/Busy.antt`), so that the time of a turn grows with none of them.
 //!
 //! The files: `lane` and `lanes` (the items that wait), `ports` (which lane a writer names), `delivery` (outputs on lanes),
-//! `clocks`, `start`, `world`, `rounds`, and `fault`.
+//! `acting` (a turn of one actor), `clocks`, `answers` (those of a phase), `start`, `world`, `rounds`, and `fault`.
 #![tactic(auto)]
 
+mod acting;
+mod answers;
 mod clocks;
 mod delivery;
 mod fault;

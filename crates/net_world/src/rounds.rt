@@ -5,6 +5,7 @@ ghost use Rattle.net_record.specs.Rounds.{turns_on, round, after_round, rounds_o
 ghost use Rattle.net_record.specs.Records.{record_of, IsSettled, IsRecordOf};
 ghost use Rattle.net_record.specs.Run.{run, schedule_of};
 ghost use Rattle.net_record.specs.Ends.{EndsDrained};
+ghost use Rattle.net_record.specs.Fronts.{TellStores, worlds_settled};
 ghost use Rattle.net_record.specs.Small.{IssuesSmallLinks};
 ghost use Rattle.net_world.specs.Busy.{turns_on_each};
 ghost use Rattle.net_world.specs.Settling.{after_phase, settles_phase};
@@ -13,7 +14,10 @@ ghost use Rattle.net_world.specs.Fault.{IsFaultOf};
 use crate::fault::RunFault;
 use crate::lanes::Busy;
 use crate::world::World;
-use net_record::{Phase, Record, phases, rounds_are_a_run, settled_rounds_end_drained};
+use net_record::{
+    Phase, Record, desks_asked, phases, rounds_are_a_run, settled_rounds_end_drained,
+    settles_tell_stores,
+};
 use net_scenario::Scenario;
 use or_base::NoMemory;
 use std::alloc::Global;
@@ -28,7 +32,8 @@ fn turns_on(world: &mut World, lane: usize, count: usize) -> Result<(), NoMemory
         if world.is_over() {
             return Ok(());
         }
-        world.turn(lane, 0)?;
+        let at = world.longest(lane);
+        world.turn(lane, at)?;
     }
     Ok(())
 }
@@ -127,12 +132,13 @@ impl MarkedWorld {
             rounds,
             moment,
         } = phase;
+        let asked = desks_asked(*self.marks.allocator(), issues.as_slice())?;
         self.world.issue(issues.into_vec())?;
         self.run_rounds(rounds)?;
         if self.is_over() || !self.is_drained() {
             return Ok(false);
         }
-        self.world.settle(moment)?;
+        self.world.settle(moment, asked.as_slice())?;
         Ok(!self.is_over())
     }
 
@@ -179,16 +185,19 @@ fn run_scenario(alloc: Global, scenario: &Scenario) -> Result<Record, RunFault>
 
 /// Runs a scenario by round robin: in each phase rounds until no item waits, at most as many as the settle that ends
 /// it allows. The record is that of these rounds. Each phase has its settle, and no item waits at the end. But for its
-/// marks the record is that of the run under the schedule of its own turns.
+/// marks the record is that of the run under the schedule of its own turns. Every store is its journal: what a settle tells
+/// of one are as many entries as it had then, the first of the journal in the record.
 #[tactic(auto, using(crate::proofs::Recorded::recorded))]
 pub fn round_robin(alloc: Global, scenario: &Scenario) -> Result<Record, RunFault>
     ensures rounds { IfOk result (λ done. IsSettled (round_robin scenario.now) done) }
     ensures drained { IfOk result (λ done. EndsDrained scenario.now) }
     ensures is_run { IfOk result (λ done. IsRecordOf (run scenario.now (schedule_of done.turns)) done) }
+    ensures stores { IfOk result (λ done. TellStores (worlds_settled scenario.now) done.settles done.journals) }
     ensures fault { IfErr result (λ fault. IsFaultOf (round_robin scenario.now) fault) }
 {
     rounds_are_a_run();
     settled_rounds_end_drained();
+    settles_tell_stores();
     let done = run_scenario(alloc, scenario)?;
     Ok(done)
 }

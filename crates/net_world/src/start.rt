@@ -1,5 +1,5 @@
 ghost use Rattle.std.specs.Prelude.{◌≡◌, All, map, IfOk};
-ghost use Rattle.net_record.specs.World.{new_actor};
+ghost use Rattle.net_record.specs.Actors.{new_actor};
 ghost use Rattle.net_record.specs.Small.{HasSmallNumber};
 
 use net_record::{ActorState, Role};

@@ -2,14 +2,16 @@ ghost use Rattle.std.specs.Prelude.{◌≡◌, IsTrue, length, IfOk, OnOk};
 ghost use Rattle.or_actor.specs.Fits.{have_small_links};
 ghost use Rattle.net_record.specs.Records.{record_of};
 
-use crate::clocks::{driver_clock, greatest_clock, set_clocks};
+use crate::acting::act;
+use crate::answers::give_all;
+use crate::clocks::{driver_clock, greatest_clock, settle_all};
 use crate::delivery::deliver;
 use crate::lanes::{Busy, Lanes};
 use crate::ports::Wiring;
 use crate::start::new_actors;
 use net_record::{
     ActorState, MOST_TURNS, MOST_WEIGHT, Record, Sent, SettleDone, add_item, add_settle,
-    journals_of, marks_of, roles, wires,
+    journals_of, longest, marks_of, roles, wires,
 };
 use net_scenario::Scenario;
 use or_actor::Output;
@@ -44,6 +46,7 @@ impl Model for World {
 impl World {
     ghost use Rattle.net_record.specs.World.{start, is_drained, turn, issued, settled};
     ghost use Rattle.net_record.specs.Budget.{is_over};
+    ghost use Rattle.net_record.specs.Rounds.{longest};
     ghost use Rattle.net_world.specs.Busy.{busy_lanes};
 
     /// The world of a scenario before anything is done.
@@ -81,8 +84,21 @@ impl World {
         MOST_WEIGHT < self.weight || (MOST_TURNS <= self.turns.len() && !self.is_drained())
     }
 
+    /// The greatest length that the turn of a lane may find: for a question that of the store's journal, and else 0.
+    pub fn longest(&self, lane: usize) -> u64
+        ensures { result ≡ longest self.now lane }
+    {
+        match self.lanes.front(lane) {
+            Some(front) => {
+                let reader = self.wiring.reader(lane);
+                longest(self.actors.as_slice(), reader as usize, &front.item)
+            }
+            None => 0,
+        }
+    }
+
     /// The turn of a lane: its reader takes the item that waits longest, and what it sends is put on the lanes of its
-    /// ports. `at` is the length that a desk found. Where no item waits on the lane, nothing is done.
+    /// ports. `at` is the length that a desk finds. Where no item waits on the lane, nothing is done.
     pub fn turn(&mut self, lane: usize, at: u64) -> Result<(), NoMemory>
         ensures { OnOk result (self.new ≡ turn self.old lane at) }
     {
@@ -93,8 +109,7 @@ impl World {
         let reader = self.wiring.reader(lane);
         let taken = self.lanes.take(lane as u32);
         let item = taken.item.copied()?;
-        let actor = &mut self.actors[reader as usize];
-        let Sent { stamp, outputs } = actor.turn(self.alloc, taken)?;
+        let Sent { stamp, outputs } = act(self.alloc, &mut self.actors, reader, taken, at)?;
         let weight = add_item(self.weight, &item);
         self.weight = weight;
         self.turns.push_reserved(TurnDone {
@@ -117,14 +132,15 @@ impl World {
         Ok(())
     }
 
-    /// A phase ends at a moment: what its settle tells is recorded, and every clock becomes one more than the greatest.
-    pub fn settle(&mut self, moment: u64) -> Result<(), NoMemory>
-        ensures { OnOk result (self.new ≡ settled moment self.old) }
+    /// A phase ends at a moment, in which these desks were asked: what its settle tells is recorded, with an answer of each in
+    /// this order. Every clock becomes one more than the greatest, and every desk sees its store's journal.
+    pub fn settle(&mut self, moment: u64, asked: &[u32]) -> Result<(), NoMemory>
+        ensures { OnOk result (self.new ≡ settled moment asked.now self.old) }
     {
         let nodes = marks_of(self.alloc, self.actors.as_slice())?;
-        let answers = Vec::new(self.alloc);
-        self.settles.reserve(1)?;
         let clock = greatest_clock(self.actors.as_slice()) + 1;
+        self.settles.reserve(1)?;
+        let answers = give_all(self.alloc, &mut self.actors, asked)?;
         let done = SettleDone {
             turns: self.turns.len() as u64,
             moment,
@@ -134,7 +150,7 @@ impl World {
         let weight = add_settle(self.weight, &done);
         self.weight = weight;
         self.settles.push_reserved(done);
-        set_clocks(&mut self.actors, clock);
+        settle_all(&mut self.actors, clock);
         Ok(())
     }
 

@@ -7,7 +7,7 @@ use Rattle.lab_words.specs.declared.words.Words.{Words}
 use Rattle.or_base.specs.declared.kind.Kind.{Kind}
 use Rattle.or_base.specs.declared.kind.Kind.TheVariants.{Stores, Full}
 use Rattle.net_scenario.specs.declared.command.Command.{Command}
-use Rattle.net_scenario.specs.declared.command.Command.TheVariants.{Settle, Tick, Set, Sync, Restart, Up, Down, Script}
+use Rattle.net_scenario.specs.declared.command.Command.TheVariants.{Settle, Tick, Set, Sync, Restart, Up, Down, Script, Get}
 use Rattle.net_scenario.specs.Scenario.{Laboratory}
 
 -- the program has the mode: it replays, and does nothing else
@@ -29,6 +29,7 @@ is_command_built (Restart node) = true
 is_command_built (Up link) = true
 is_command_built (Down link) = true
 is_command_built (Script link from acts) = true
+is_command_built (Get node key) = true
 is_command_built _ = false
 
 -- stores and links, as many as a scenario may have, with no other commands and without given turns

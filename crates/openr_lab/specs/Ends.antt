@@ -10,6 +10,7 @@ use Rattle.net_record.specs.Rounds.{round_robin}
 use Rattle.net_record.specs.Run.{run as run_of, schedule_of}
 use Rattle.net_record.specs.Records.{IsSettled, IsRecordOf}
 use Rattle.net_record.specs.Ends.{EndsDrained}
+use Rattle.net_record.specs.Fronts.{TellStores, worlds_settled}
 use Rattle.net_report.specs.Report.{line, report as report_of}
 use Rattle.openr_lab.specs.declared.answer.Answer.{Answer}
 use Rattle.openr_lab.specs.declared.streams.TheConstants.{READ_LIMIT}
@@ -94,14 +95,15 @@ AnswerFailed words left left' taken taken' run =
     ReadFailed words left left' taken taken' run ⊎ NotBuiltFailed words left left' taken taken' run
 
 -- What status 0 says of the run of a laboratory: the record is that of its run by round robin, which settled every
--- phase and left no item. But for its marks it is the record of the run under the schedule of its own turns. The text
--- is its report.
+-- phase and left no item. But for its marks it is the record of the run under the schedule of its own turns. What each settle
+-- tells of a store are the entries that its journal had then. The text is its report.
 pub record IsReplay (lab : Laboratory) (trace : Bool) (text : List ℕ) (run : Option Record) : Type 0 where
   pub done : Record
   pub recorded : run ≡ Some done
   pub rounds : IsSettled (round_robin lab) done
   pub drained : EndsDrained lab
   pub is_run : IsRecordOf (run_of lab (schedule_of done.turns)) done
+  pub stores : TellStores (worlds_settled lab) done.settles done.journals
   pub report : text ≡ report_of done lab trace
 
 -- What status 0 says of the whole call: the source was read to its end, its bytes are a scenario that the program

@@ -25,6 +25,7 @@ fn is_command_built(command: &Command) -> bool
         Command::Up { .. } => true,
         Command::Down { .. } => true,
         Command::Script { .. } => true,
+        Command::Get { .. } => true,
         _other => false,
     }
 }

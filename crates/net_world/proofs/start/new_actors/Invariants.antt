@@ -1,5 +1,5 @@
 use Rattle.std.proofs.Common.{◌≡◌, map, take}
-use Rattle.net_record.specs.World.{new_actor}
+use Rattle.net_record.specs.Actors.{new_actor}
 use Rattle.net_world.proofs.start.new_actors.Given as goal
 
 abbrev pub invariant-loop-role : goal.invariant-loop-role
