@@ -4,6 +4,7 @@ The program is started from a small process of its own, since a process counts t
 """
 import json
 import os
+import shutil
 import subprocess
 import sys
 import tempfile
@@ -35,3 +36,19 @@ def best(data, times=3):
     """The least seconds of some runs, and the rest of the last."""
     runs = [run(data) for _ in range(times)]
     return (min(r[0] for r in runs),) + runs[-1][1:]
+
+
+def share(data, parts):
+    """The percentage of a run's time, by samples of `perf`, that is spent in functions whose name has one of these parts."""
+    if shutil.which("perf") is None:
+        sys.exit("this needs `perf`")
+    with tempfile.TemporaryDirectory() as folder, tempfile.TemporaryFile() as source:
+        source.write(data)
+        source.seek(0)
+        samples = os.path.join(folder, "samples")
+        quiet = {"stdout": subprocess.DEVNULL, "stderr": subprocess.DEVNULL, "check": True}
+        subprocess.run(["perf", "record", "-F", "999", "-o", samples, PROGRAM, "replay"], stdin=source, **quiet)
+        report = ["perf", "report", "-i", samples, "--stdio", "-F", "overhead,symbol"]
+        lines = subprocess.run(report, capture_output=True, text=True, check=True).stdout.splitlines()
+    rows = [line.split("%", 1) for line in lines if "%" in line and not line.startswith("#")]
+    return sum(float(percent) for percent, symbol in rows if any(part in symbol for part in parts))

@@ -2,10 +2,15 @@
 """Times full syncs: in a grid of 64 stores whose links come up and whose stores restart, and between two stores.
 
     python3 bench/syncs.py
+    python3 bench/syncs.py --hashing
 
 Prints, for each, the turns, the seconds (best of three), the turns a second, the microseconds a turn, the greatest
-memory in use and the status, as `stores.py` does.
+memory in use and the status, as `stores.py` does. With `--hashing` it prints the share of the time that is spent hashing
+values, for which it needs `perf`.
 """
+import sys
+
+from measure import share
 from stores import LAB, QUIET, a_set, grid_of, link, nodes, show
 
 SIDE = 8
@@ -44,6 +49,19 @@ def two(keys, more):
     return [LAB, *nodes(2), link(0, 1), *held(keys), QUIET, *more]
 
 
+def hashing():
+    for name, lines in (
+        ("grid of 64 comes up, 512 keys of 16 bytes at one corner", grid(512)),
+        ("grid of 64 comes up, 512 keys of 4,096 bytes at one corner", grid(512, 4096)),
+        ("grid with 512 keys of 16, every other restarts, then the rest", grid(512) + restarts([EVEN, ODD])),
+        ("grid with 512 keys of 1,536, the same", grid(512, 1536) + restarts([EVEN, ODD])),
+        ("grid with 512 keys of 16 everywhere, 20 syncs on each link", grid(512) + syncs(20)),
+        ("two stores, 512 equal keys, 900 syncs", two(512, ['{"do":"sync","node":"n0","link":0}', QUIET] * 900)),
+    ):
+        data = ("\n".join(lines) + "\n").encode()
+        print("%-62s %5.1f %% of the time in hashing" % (name, share(data, ("sha2::", "kv_value::hash"))), flush=True)
+
+
 def main():
     show("grid of 64 comes up, no keys", grid(0))
     show("grid of 64 comes up, 512 keys of 16 bytes at one corner", grid(512))
@@ -59,4 +77,7 @@ def main():
 
 
 if __name__ == "__main__":
-    main()
+    if sys.argv[1:] == ["--hashing"]:
+        hashing()
+    else:
+        main()

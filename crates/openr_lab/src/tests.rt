@@ -365,79 +365,6 @@ const CASES: &[Case] = &[
         output: "settle 1 moment 0\nsettle 2 moment 0\nstore a entries 1 stale 0\nkey x 1 a 01 0 -\nstore b entries 1 stale 0\nkey x 1 a 01 0 -\nend\n",
     },
     Case {
-        name: "a key that is held is answered with its value, and another with none",
-        words: &["replay"],
-        input: &[
-            ONE_STORE,
-            SET_AT_A,
-            SILENT,
-            GET_AT_A,
-            r#"{"do":"get","node":"a","key":"y"}
-"#,
-            SILENT,
-        ],
-        failing_read: 0,
-        failing_write: 0,
-        status: 0,
-        has_record: true,
-        output: "settle 1 moment 0\nsettle 2 moment 0\nget a x value 1 a 01 0\nget a y none\nend\n",
-    },
-    Case {
-        name: "answers stand in the order of the commands, and each desk asks the store of its own node",
-        words: &["replay"],
-        input: &[
-            r#"{"do":"lab","kind":"stores"}
-{"do":"node","name":"a"}
-{"do":"node","name":"b"}
-{"do":"set","node":"a","key":"x","version":1,"hex":""}
-{"do":"set","node":"b","key":"x","version":2,"hex":"02"}
-{"do":"settle","show":"none"}
-{"do":"get","node":"b","key":"x"}
-{"do":"get","node":"a","key":"x"}
-{"do":"get","node":"b","key":"z"}
-{"do":"get","node":"a","key":"z"}
-{"do":"get","node":"b","key":"x"}
-"#,
-            SHOWN,
-            GET_AT_A,
-            SILENT,
-        ],
-        failing_read: 0,
-        failing_write: 0,
-        status: 0,
-        has_record: true,
-        output: "settle 1 moment 0\nsettle 2 moment 0\nget b x value 2 b 02 0\nget a x value 1 a - 0\nget b z none\nget a z none\nget b x value 2 b 02 0\nstore a entries 1 stale 0\nkey x 1 a - 0 -\nstore b entries 1 stale 0\nkey x 2 b 02 0 -\nsettle 3 moment 0\nget a x value 1 a - 0\nend\n",
-    },
-    Case {
-        name: "a key that was lost in a restart is answered with none",
-        words: &["replay"],
-        input: &[
-            ONE_STORE,
-            SET_AT_A,
-            SILENT,
-            r#"{"do":"restart","node":"a"}
-"#,
-            SILENT,
-            GET_AT_A,
-            SILENT,
-        ],
-        failing_read: 0,
-        failing_write: 0,
-        status: 0,
-        has_record: true,
-        output: "settle 1 moment 0\nsettle 2 moment 0\nsettle 3 moment 0\nget a x none\nend\n",
-    },
-    Case {
-        name: "a question in the phase of a set finds what the store has when the desk takes its turn",
-        words: &["--trace", "replay"],
-        input: &[ONE_STORE, GET_AT_A, SET_AT_A, SILENT],
-        failing_read: 0,
-        failing_write: 0,
-        status: 0,
-        has_record: true,
-        output: "{\"do\":\"turn\",\"lane\":0,\"at\":0}\n{\"do\":\"turn\",\"lane\":1,\"at\":1}\nsettle 1 moment 0\nget a x value 1 a 01 0\nend\n",
-    },
-    Case {
         name: "the mode live isn't built, which is told before the source is read",
         words: &["live", "--workers", "4"],
         input: &[STORES],
@@ -594,6 +521,83 @@ const UNBUILT: &[&str] = &[
 {"do":"turn","lane":0,"at":0}"#,
 ];
 
+/// Calls with questions.
+const QUESTIONS: &[Case] = &[
+    Case {
+        name: "a key that is held is answered with its value, and another with none",
+        words: &["replay"],
+        input: &[
+            ONE_STORE,
+            SET_AT_A,
+            SILENT,
+            GET_AT_A,
+            r#"{"do":"get","node":"a","key":"y"}
+"#,
+            SILENT,
+        ],
+        failing_read: 0,
+        failing_write: 0,
+        status: 0,
+        has_record: true,
+        output: "settle 1 moment 0\nsettle 2 moment 0\nget a x value 1 a 01 0\nget a y none\nend\n",
+    },
+    Case {
+        name: "answers stand in the order of the commands, and each desk asks the store of its own node",
+        words: &["replay"],
+        input: &[
+            r#"{"do":"lab","kind":"stores"}
+{"do":"node","name":"a"}
+{"do":"node","name":"b"}
+{"do":"set","node":"a","key":"x","version":1,"hex":""}
+{"do":"set","node":"b","key":"x","version":2,"hex":"02"}
+{"do":"settle","show":"none"}
+{"do":"get","node":"b","key":"x"}
+{"do":"get","node":"a","key":"x"}
+{"do":"get","node":"b","key":"z"}
+{"do":"get","node":"a","key":"z"}
+{"do":"get","node":"b","key":"x"}
+"#,
+            SHOWN,
+            GET_AT_A,
+            SILENT,
+        ],
+        failing_read: 0,
+        failing_write: 0,
+        status: 0,
+        has_record: true,
+        output: "settle 1 moment 0\nsettle 2 moment 0\nget b x value 2 b 02 0\nget a x value 1 a - 0\nget b z none\nget a z none\nget b x value 2 b 02 0\nstore a entries 1 stale 0\nkey x 1 a - 0 -\nstore b entries 1 stale 0\nkey x 2 b 02 0 -\nsettle 3 moment 0\nget a x value 1 a - 0\nend\n",
+    },
+    Case {
+        name: "a key that was lost in a restart is answered with none",
+        words: &["replay"],
+        input: &[
+            ONE_STORE,
+            SET_AT_A,
+            SILENT,
+            r#"{"do":"restart","node":"a"}
+"#,
+            SILENT,
+            GET_AT_A,
+            SILENT,
+        ],
+        failing_read: 0,
+        failing_write: 0,
+        status: 0,
+        has_record: true,
+        output: "settle 1 moment 0\nsettle 2 moment 0\nsettle 3 moment 0\nget a x none\nend\n",
+    },
+    Case {
+        name: "a question in the phase of a set finds what the store has when the desk takes its turn",
+        words: &["--trace", "replay"],
+        input: &[ONE_STORE, GET_AT_A, SET_AT_A, SILENT],
+        failing_read: 0,
+        failing_write: 0,
+        status: 0,
+        has_record: true,
+        output: "{\"do\":\"turn\",\"lane\":0,\"at\":0}\n{\"do\":\"turn\",\"lane\":1,\"at\":1}\nsettle 1 moment 0\nget a x value 1 a 01 0\nend\n",
+    },
+];
+
 /// The texts, one after another.
 fn joined(alloc: Global, texts: &[&str]) -> Result<Vec<u8>, Fail> {
     let mut all = Vec::new(alloc);
@@ -629,6 +633,14 @@ fn ends_as_stated(rt: &impl Abort, alloc: Global, case: &Case) -> Result<(), Fai
 #[test]
 fn each_call_ends_as_stated(rt: HostRuntime) -> Result<(), Fail> {
     for case in CASES {
+        ends_as_stated(&rt, rt.alloc(), case)?;
+    }
+    Ok(())
+}
+
+#[test]
+fn each_question_is_answered_as_stated(rt: HostRuntime) -> Result<(), Fail> {
+    for case in QUESTIONS {
         ends_as_stated(&rt, rt.alloc(), case)?;
     }
     Ok(())
