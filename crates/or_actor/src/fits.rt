@@ -3,7 +3,10 @@ ghost use Rattle.or_actor.specs.Fits.{has_small_link};
 
 use or_base::Item;
 
-/// A link that the item names has a number below 2^31.
+/// Links are numbered below this.
+pub const LINK_NUMBER_END: u32 = 1 << 31;
+
+/// A link that the item names has a number below `LINK_NUMBER_END`. It takes no memory.
 pub fn has_small_link(item: &Item) -> bool
     ensures { result ≡ has_small_link item.now }
 {
@@ -17,7 +20,7 @@ pub fn has_small_link(item: &Item) -> bool
         | Item::NeighbourDown { link }
         | Item::PeerUp { link, .. }
         | Item::PeerDown { link }
-        | Item::Net { link, .. } => *link < 1 << 31,
+        | Item::Net { link, .. } => *link < LINK_NUMBER_END,
         _ => true,
     }
 }

@@ -1,12 +1,13 @@
 //! What a module is: an event loop that takes one item at a time and sends items.
 //!
 //! A module owns its state, and nobody else touches it. Its meaning is a plain state and a step, a function of the
-//! state, the lane that the item came from, the item and the length that a desk found: it gives the next state and
-//! what is sent, in order (`Module`). What a turn sends goes into an `Outbox`, which contracts see as the list of
+//! state, the lane that the item came from, the item and the journal's length that a desk found: it gives the next state
+//! and what is sent, in order (`Module`). What a turn sends goes into an `Outbox`, which contracts see as the list of
 //! outputs. A module names its outgoing lanes by ports (`ports`), so that it knows nothing of the lanes' numbers.
 //!
-//! A turn may be done where `fits` says so: the numbers that the item and the state bring are small enough. What a
-//! turn sends keeps the condition on items again, so a run that begins with such items never meets another.
+//! A turn may be done where `fits` says so: every link that the item names has a small number. What a turn sends keeps
+//! that condition, so a run that begins with such items never meets another. `specs/Steps.antt` says what every run is
+//! told by: a turn that was made with its stamp, the state after turns, and what they took from a lane.
 #![tactic(auto)]
 
 mod fits;
@@ -15,8 +16,8 @@ mod outbox;
 mod output;
 mod ports;
 
-pub use fits::has_small_link;
+pub use fits::{LINK_NUMBER_END, has_small_link};
 pub use module::Module;
 pub use outbox::Outbox;
 pub use output::Output;
-pub use ports::{DESK_PORT, FIRST_LINK_PORT, STORE_PORT, STORE_PORT_AT_B};
+pub use ports::{DESK_PORT, END_B_PORTS, FIRST_LINK_PORT, STORE_PORT};

@@ -7,5 +7,5 @@ pub const DESK_PORT: u32 = 7;
 /// The port of link 0; that of link `l` is `l` more.
 pub const FIRST_LINK_PORT: u32 = 8;
 
-/// A link's port for the store of its end b.
-pub const STORE_PORT_AT_B: u32 = 12;
+/// A link's ports for the modules of its end b are so much more than those for end a.
+pub const END_B_PORTS: u32 = 8;
