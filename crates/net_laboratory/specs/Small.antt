@@ -1,6 +1,6 @@
 use Rattle.std.specs.Prelude.{◌^◌, Bool, true, nat_lt, IsTrue}
-use Rattle.net_scenario.specs.declared.command.Command.{Command}
-use Rattle.net_scenario.specs.declared.command.Command.TheVariants.{Sync, LinkDrain, Metric}
+use Rattle.net_laboratory.specs.declared.command.Command.{Command}
+use Rattle.net_laboratory.specs.declared.command.Command.TheVariants.{Sync, LinkDrain, Metric}
 
 -- a link of a node that the command names has a number below 2^31
 abbrev pub names_small_link : Command → Bool

@@ -7,12 +7,12 @@ use Rattle.or_base.specs.Prefixes.{is_same_prefix}
 use Rattle.or_base.specs.declared.kind.Kind.{Kind}
 use Rattle.or_base.specs.declared.kind.Kind.TheVariants as kind
 use Rattle.or_base.specs.declared.prefix.Prefix.{Prefix}
-use Rattle.net_scenario.specs.declared.declared.NodeDecl.{NodeDecl}
-use Rattle.net_scenario.specs.Scenario.{is_declared}
-use Rattle.net_scenario.specs.declared.command.Command.{Command}
-use Rattle.net_scenario.specs.declared.command.Command.TheVariants.{Settle, Tick, Set, Own, Advertise, Aggregate}
-use Rattle.net_scenario.specs.declared.tally.Owned.{Owned}
-use Rattle.net_scenario.specs.declared.tally.Offered.{Offered}
+use Rattle.net_laboratory.specs.declared.declared.NodeDecl.{NodeDecl}
+use Rattle.net_laboratory.specs.Scenario.{is_declared}
+use Rattle.net_laboratory.specs.declared.command.Command.{Command}
+use Rattle.net_laboratory.specs.declared.command.Command.TheVariants.{Settle, Tick, Set, Own, Advertise, Aggregate}
+use Rattle.net_laboratory.specs.declared.amounts.KeyOwner.{KeyOwner}
+use Rattle.net_laboratory.specs.declared.amounts.NodePrefix.{NodePrefix}
 
 -- ---- keys
 
@@ -52,21 +52,21 @@ has_key_room keys key = is_among keys key || nat_lt (length keys) 512
 
 -- ---- owners
 
-abbrev pub is_owned : List Owned → List ℕ → Bool
+abbrev pub is_owned : List KeyOwner → List ℕ → Bool
 is_owned owners key = list_any (λ o. bytes_eq o.key key) owners
 
-abbrev pub with_owned : List Owned → List ℕ → List ℕ → List Owned
-with_owned owners key node = if is_owned owners key then owners else owners ++ record { key = key; node = node } ∷ []
+abbrev pub with_key_owner : List KeyOwner → List ℕ → List ℕ → List KeyOwner
+with_key_owner owners key node = if is_owned owners key then owners else owners ++ record { key = key; node = node } ∷ []
 
-abbrev pub with_owner : List Owned → Command → List Owned
-with_owner owners (Own node key value ttl) = with_owned owners key node
+abbrev pub with_owner : List KeyOwner → Command → List KeyOwner
+with_owner owners (Own node key value ttl) = with_key_owner owners key node
 with_owner owners _ = owners
 
 -- the keys that own commands name, each with the node that owned it first
-unfoldable pub owners_in : List Command → List Owned
+unfoldable pub owners_in : List Command → List KeyOwner
 owners_in commands = fold with_owner [] commands
 
-abbrev pub has_other_owner : List Owned → List ℕ → List ℕ → Bool
+abbrev pub has_other_owner : List KeyOwner → List ℕ → List ℕ → Bool
 has_other_owner owners key node = list_any (λ o. bytes_eq o.key key && not (bytes_eq o.node node)) owners
 
 -- the key is this text followed by the name of a declared node
@@ -80,23 +80,23 @@ is_record_key kind.Full nodes key = is_of_node nodes (codes "adj:") key || is_of
 
 -- ---- prefixes
 
-abbrev pub is_offered : List Offered → List ℕ → Prefix → Bool
+abbrev pub is_offered : List NodePrefix → List ℕ → Prefix → Bool
 is_offered offers node prefix = list_any (λ o. bytes_eq o.node node && is_same_prefix o.prefix prefix) offers
 
-abbrev pub with_offered : List Offered → List ℕ → Prefix → List Offered
-with_offered offers node prefix = if is_offered offers node prefix then offers else offers ++ record { node = node; prefix = prefix } ∷ []
+abbrev pub with_node_prefix : List NodePrefix → List ℕ → Prefix → List NodePrefix
+with_node_prefix offers node prefix = if is_offered offers node prefix then offers else offers ++ record { node = node; prefix = prefix } ∷ []
 
-abbrev pub with_offer : List Offered → Command → List Offered
-with_offer offers (Advertise node entry) = with_offered offers node entry.prefix
-with_offer offers (Aggregate node prefix min) = with_offered offers node prefix
+abbrev pub with_offer : List NodePrefix → Command → List NodePrefix
+with_offer offers (Advertise node entry) = with_node_prefix offers node entry.prefix
+with_offer offers (Aggregate node prefix min) = with_node_prefix offers node prefix
 with_offer offers _ = offers
 
 -- the distinct prefixes that each node advertises or aggregates, withdrawn since or not
-unfoldable pub offers_in : List Command → List Offered
+unfoldable pub offers_in : List Command → List NodePrefix
 offers_in commands = fold with_offer [] commands
 
 -- the node has the prefix, or may have it
-unfoldable pub has_offer_room : List Offered → List ℕ → Prefix → Bool
+unfoldable pub has_offer_room : List NodePrefix → List ℕ → Prefix → Bool
 has_offer_room offers node prefix =
     is_offered offers node prefix || nat_lt (count_by (λ o. bytes_eq o.node node) offers) 32
 

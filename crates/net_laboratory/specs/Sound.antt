@@ -9,13 +9,13 @@ use Rattle.or_base.specs.declared.act.Act.TheVariants as act
 use Rattle.or_base.specs.declared.database.PrefixEntry.{PrefixEntry}
 use Rattle.or_base.specs.declared.kind.Kind.{Kind}
 use Rattle.or_base.specs.declared.kind.Kind.TheVariants as kind
-use Rattle.net_fields.specs.declared.show.Show.TheVariants as show
-use Rattle.net_scenario.specs.declared.declared.NodeDecl.{NodeDecl}
-use Rattle.net_scenario.specs.declared.declared.LinkDecl.{LinkDecl}
-use Rattle.net_scenario.specs.declared.command.Command.{Command}
-use Rattle.net_scenario.specs.declared.command.Command.TheVariants.{Settle, Tick, Set, Own, Disown, Sync, Restart, Up, Down, Script, Get, Drain, LinkDrain, Metric, Advertise, Withdraw, Aggregate, Ask}
-use Rattle.net_scenario.specs.Scenario.{Laboratory, is_declared, is_end, is_interface, is_end_of}
-use Rattle.net_scenario.specs.Limits.{keys_in, has_key_room, owners_in, has_other_owner, is_record_key, offers_in, has_offer_room, is_settle, settles_in, ends_in_settle, last_tick, is_later}
+use Rattle.net_laboratory.specs.declared.show.Show.TheVariants as show
+use Rattle.net_laboratory.specs.declared.declared.NodeDecl.{NodeDecl}
+use Rattle.net_laboratory.specs.declared.declared.LinkDecl.{LinkDecl}
+use Rattle.net_laboratory.specs.declared.command.Command.{Command}
+use Rattle.net_laboratory.specs.declared.command.Command.TheVariants.{Settle, Tick, Set, Own, Disown, Sync, Restart, Up, Down, Script, Get, Drain, LinkDrain, Metric, Advertise, Withdraw, Aggregate, Ask}
+use Rattle.net_laboratory.specs.Scenario.{Laboratory, is_declared, is_end, is_interface, is_end_of}
+use Rattle.net_laboratory.specs.Limits.{keys_in, has_key_room, owners_in, has_other_owner, is_record_key, offers_in, has_offer_room, is_settle, settles_in, ends_in_settle, last_tick, is_later}
 
 -- ---- declarations
 

@@ -1,22 +1,18 @@
 -- The links of nodes that the commands of a sound scenario name have small numbers.
-use Rattle.std.proofs.Common.{◌≡◌, ℕ, ◌≤◌, ◌<◌, ◌^◌, inl, inr, Bool, true, false, ◌&&◌, List, [], ◌∷◌, ◌++◌, length, refl, sym, ◌∙◌, ap, arith}
+use Rattle.std.proofs.Common.{◌≡◌, ℕ, ◌≤◌, ◌<◌, ◌^◌, inl, inr, true, false, List, [], ◌∷◌, ◌++◌, length, refl, sym, ◌∙◌, ap, arith}
 use Rattle.std.specs.Prelude.{All}
 use Rattle.std.specs.Option.{option_map_or}
-use Rattle.std.proofs.lemmas.Bool.{false≢true, cases_lt, lt-ltb}
+use Rattle.std.proofs.lemmas.Bool.{false≢true, and_parts, cases_lt, lt-ltb}
 use Rattle.std.proofs.lemmas.Option.{slice_get_past}
 use Rattle.std.proofs.lemmas.List.Elements.{All-nil, All-cons}
-use Rattle.net_scenario.specs.declared.command.Command.{Command}
-use Rattle.net_scenario.specs.declared.command.Command.TheVariants.{Settle, Sync, LinkDrain, Metric}
-use Rattle.net_scenario.specs.declared.declared.LinkDecl.{LinkDecl}
-use Rattle.net_scenario.specs.Scenario.{Laboratory, is_end, is_end_of}
-use Rattle.net_scenario.specs.Limits.{is_settle}
-use Rattle.net_scenario.specs.Sound.{Declared, is_within, admits_command, are_closed, declared_in, is_sound}
-use Rattle.net_scenario.specs.Small.{names_small_link, NamesSmallLink}
-use Rattle.net_scenario.proofs.Bools.{both}
-use Rattle.net_scenario.proofs.Soundness.{few_links}
-
-first : (a b : Bool) → (a && b) ≡ true → a ≡ true
-first a b h = (both a b h).0
+use Rattle.net_laboratory.specs.declared.command.Command.{Command}
+use Rattle.net_laboratory.specs.declared.command.Command.TheVariants.{Settle, Sync, LinkDrain, Metric}
+use Rattle.net_laboratory.specs.declared.declared.LinkDecl.{LinkDecl}
+use Rattle.net_laboratory.specs.Scenario.{Laboratory, is_end, is_end_of}
+use Rattle.net_laboratory.specs.Limits.{is_settle}
+use Rattle.net_laboratory.specs.Sound.{Declared, is_within, admits_command, are_closed, declared_in, is_sound}
+use Rattle.net_laboratory.specs.Small.{names_small_link, NamesSmallLink}
+use Rattle.net_laboratory.proofs.Room.{first_of, few_links}
 
 -- a link that a node is an end of is declared
 end_below : (links : List LinkDecl) (name : List ℕ) (number : ℕ) → is_end_of links name number ≡ true → number < length links
@@ -31,14 +27,14 @@ small_end d name number few h = let below = end_below d.links name number h in l
 
 within_small : (d : Declared) (c : Command) → length d.links ≤ 256 → is_within d c ≡ true → names_small_link c ≡ true
 unfolding is_within
-within_small d (Sync node link) few h = small_end d node link few (both _ (is_end_of d.links node link) h).1
-within_small d (LinkDrain node link on) few h = small_end d node link few (both _ (is_end_of d.links node link) h).1
-within_small d (Metric node link metric) few h = small_end d node link few (both _ (is_end_of d.links node link) (first _ _ h)).1
+within_small d (Sync node link) few h = small_end d node link few (and_parts _ (is_end_of d.links node link) h).1
+within_small d (LinkDrain node link on) few h = small_end d node link few (and_parts _ (is_end_of d.links node link) h).1
+within_small d (Metric node link metric) few h = small_end d node link few (and_parts _ (is_end_of d.links node link) (first_of _ h)).1
 within_small d _ few h = refl
 
 admitted_small : (d : Declared) (before : List Command) (c : Command) → length d.links ≤ 256 → admits_command d before c ≡ true → names_small_link c ≡ true
 unfolding admits_command
-admitted_small d before c few h = within_small d c few (first _ _ (first _ _ (first _ _ (first _ _ (first _ _ h)))))
+admitted_small d before c few h = within_small d c few (first_of _ (first_of _ (first_of _ (first_of _ (first_of _ h)))))
 
 settle_small : (c : Command) → is_settle c ≡ true → names_small_link c ≡ true
 settle_small (Settle rounds show) h = refl
@@ -46,11 +42,11 @@ settle_small _ h = absurd (false≢true h)
 
 closed_small : (d : Declared) (before commands : List Command) → length d.links ≤ 256 → are_closed d before commands ≡ true → All NamesSmallLink commands
 closed_small d before [] few h = All-nil NamesSmallLink
-closed_small d before (c ∷ []) few h = All-cons NamesSmallLink c [] (settle_small c (first _ _ h)) (All-nil NamesSmallLink)
+closed_small d before (c ∷ []) few h = All-cons NamesSmallLink c [] (settle_small c (first_of _ h)) (All-nil NamesSmallLink)
 closed_small d before (c ∷ next ∷ commands) few h =
-    let parts = both (admits_command d before c) (are_closed d (before ++ c ∷ []) (next ∷ commands)) h in
+    let parts = and_parts (admits_command d before c) (are_closed d (before ++ c ∷ []) (next ∷ commands)) h in
     All-cons NamesSmallLink c (next ∷ commands) (admitted_small d before c few parts.0) (closed_small d (before ++ c ∷ []) (next ∷ commands) few parts.1)
 
 pub small_commands : (lab : Laboratory) → is_sound lab ≡ true → All NamesSmallLink lab.commands
 unfolding is_sound
-small_commands lab sound = closed_small (declared_in lab) [] lab.commands (few_links lab sound) (both _ (are_closed (declared_in lab) [] lab.commands) (first _ _ sound)).1
+small_commands lab sound = closed_small (declared_in lab) [] lab.commands (few_links lab sound) (and_parts _ (are_closed (declared_in lab) [] lab.commands) (first_of _ sound)).1
