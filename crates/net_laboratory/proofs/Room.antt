@@ -3,6 +3,7 @@ use Rattle.std.proofs.Common.{◌≡◌, ℕ, ◌+◌, ◌<◌, ◌≤◌, Bool,
 use Rattle.std.proofs.lemmas.Bool.{and_parts, ltb-true}
 use Rattle.net_laboratory.specs.declared.declared.NodeDecl.{NodeDecl}
 use Rattle.net_laboratory.specs.declared.declared.LinkDecl.{LinkDecl}
+use Rattle.net_laboratory.specs.Limits.{most_nodes, most_links}
 use Rattle.net_laboratory.specs.Scenario.{Laboratory}
 use Rattle.net_laboratory.specs.Sound.{is_lifetime, are_admitted, admits_node, admits_link, is_sound}
 
@@ -21,23 +22,23 @@ few admits most room before (x ∷ xs) fits h =
     let rest : length (before ++ x ∷ []) + length xs ≤ most = few admits most room (before ++ x ∷ []) xs (omega (arith, len, here)) parts.1 in
     omega (arith, len, rest)
 
-node_room : (before : List NodeDecl) (node : NodeDecl) → admits_node before node ≡ true → length before < 64
+node_room : (before : List NodeDecl) (node : NodeDecl) → admits_node before node ≡ true → length before < most_nodes
 unfolding admits_node
-node_room before node h = ltb-true (length before) 64 (first_of _ (first_of _ (first_of _ (first_of _ h))))
+node_room before node h = ltb-true (length before) most_nodes (first_of _ (first_of _ (first_of _ (first_of _ h))))
 
-link_room : (nodes : List NodeDecl) (before : List LinkDecl) (link : LinkDecl) → admits_link nodes before link ≡ true → length before < 256
+link_room : (nodes : List NodeDecl) (before : List LinkDecl) (link : LinkDecl) → admits_link nodes before link ≡ true → length before < most_links
 unfolding admits_link
 link_room nodes before link h =
-    ltb-true (length before) 256 (first_of _ (first_of _ (first_of _ (first_of _ (first_of _ (first_of _ (first_of _ (first_of _ (first_of _ (first_of _ (first_of _ h)))))))))))
+    ltb-true (length before) most_links (first_of _ (first_of _ (first_of _ (first_of _ (first_of _ (first_of _ (first_of _ (first_of _ (first_of _ (first_of _ (first_of _ h)))))))))))
 
-pub few_nodes : (lab : Laboratory) → is_sound lab ≡ true → length lab.nodes ≤ 64
+pub few_nodes : (lab : Laboratory) → is_sound lab ≡ true → length lab.nodes ≤ most_nodes
 unfolding is_sound
 few_nodes lab sound =
     let nodes = (and_parts (is_lifetime lab.ttl) (are_admitted admits_node [] lab.nodes) (first_of _ (first_of _ (first_of _ sound)))).1 in
-    let fits = few admits_node 64 node_room [] lab.nodes (omega arith) nodes in omega (arith, fits)
+    let fits = few admits_node most_nodes node_room [] lab.nodes (omega arith) nodes in omega (arith, fits)
 
-pub few_links : (lab : Laboratory) → is_sound lab ≡ true → length lab.links ≤ 256
+pub few_links : (lab : Laboratory) → is_sound lab ≡ true → length lab.links ≤ most_links
 unfolding is_sound
 few_links lab sound =
     let links = (and_parts _ (are_admitted (admits_link lab.nodes) [] lab.links) (first_of _ (first_of _ sound))).1 in
-    let fits = few (admits_link lab.nodes) 256 (link_room lab.nodes) [] lab.links (omega arith) links in omega (arith, fits)
+    let fits = few (admits_link lab.nodes) most_links (link_room lab.nodes) [] lab.links (omega arith) links in omega (arith, fits)

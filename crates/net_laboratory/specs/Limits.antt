@@ -1,129 +1,95 @@
--- What the declarations and commands so far amount to: keys, owners, prefixes, settles, the moment.
-use Rattle.std.specs.Prelude.{ℕ, cond, List, [], ◌∷◌, ◌++◌, Bool, true, false, ◌&&◌, ◌||◌, not, nat_lt, length, codes, Option, Some, None, if◌then◌else◌, fold, take, drop}
-use Rattle.std.specs.Str.{bytes_eq}
-use Rattle.std.specs.List.{list_any, count_by}
-use Rattle.std.specs.Option.{option_map_or}
-use Rattle.or_base.specs.Prefixes.{is_same_prefix}
-use Rattle.or_base.specs.declared.kind.Kind.{Kind}
-use Rattle.or_base.specs.declared.kind.Kind.TheVariants as kind
-use Rattle.or_base.specs.declared.prefix.Prefix.{Prefix}
-use Rattle.net_laboratory.specs.declared.declared.NodeDecl.{NodeDecl}
-use Rattle.net_laboratory.specs.Scenario.{is_declared}
-use Rattle.net_laboratory.specs.declared.command.Command.{Command}
-use Rattle.net_laboratory.specs.declared.command.Command.TheVariants.{Settle, Tick, Set, Own, Advertise, Aggregate}
-use Rattle.net_laboratory.specs.declared.amounts.KeyOwner.{KeyOwner}
-use Rattle.net_laboratory.specs.declared.amounts.NodePrefix.{NodePrefix}
+-- The limits of a scenario, beside those of names, keys and values.
+use Rattle.std.specs.Prelude.{ℕ, ◌-◌, ◌^◌}
 
--- ---- keys
+-- ---- bytes and lines
 
-abbrev pub is_among : List (List ℕ) → List ℕ → Bool
-is_among names name = list_any (bytes_eq name) names
+abbrev pub most_scenario_bytes : ℕ
+most_scenario_bytes = 33554432
 
--- these names with one more, unless it is among them
-abbrev pub with_name : List (List ℕ) → List ℕ → List (List ℕ)
-with_name names name = if is_among names name then names else names ++ name ∷ []
+-- of a line without its LF
+abbrev pub most_line_bytes : ℕ
+most_line_bytes = 65536
 
--- the keys of the two records that a node of a full laboratory publishes
-abbrev pub link_record_key : List ℕ → List ℕ
-link_record_key node = codes "adj:" ++ node
+-- lines that aren't turns
+abbrev pub most_lines : ℕ
+most_lines = 10000
 
-abbrev pub prefix_record_key : List ℕ → List ℕ
-prefix_record_key node = codes "prefix:" ++ node
+-- turns of a run, and turn lines
+abbrev pub most_turns : ℕ
+most_turns = 500000
 
-abbrev pub with_record_keys : Kind → List (List ℕ) → NodeDecl → List (List ℕ)
-with_record_keys kind.Stores keys node = keys
-with_record_keys kind.Full keys node = with_name (with_name keys (link_record_key node.name)) (prefix_record_key node.name)
+-- ---- declarations
 
-abbrev pub record_keys : Kind → List NodeDecl → List (List ℕ)
-record_keys kind nodes = fold (with_record_keys kind) [] nodes
+abbrev pub most_nodes : ℕ
+most_nodes = 64
 
-abbrev pub with_key : List (List ℕ) → Command → List (List ℕ)
-with_key keys (Set node pair) = with_name keys pair.key
-with_key keys (Own node key value ttl) = with_name keys key
-with_key keys _ = keys
+-- how many calls on the forwarding agent of a node may fail, and the greatest number of one
+abbrev pub most_failing_calls : ℕ
+most_failing_calls = 64
 
--- the distinct keys: those of records, and those that set and own commands name
-unfoldable pub keys_in : Kind → List NodeDecl → List Command → List (List ℕ)
-keys_in kind nodes commands = fold with_key (record_keys kind nodes) commands
+abbrev pub last_failing_call : ℕ
+last_failing_call = 500000
 
--- the key is counted, or may be
-abbrev pub has_key_room : List (List ℕ) → List ℕ → Bool
-has_key_room keys key = is_among keys key || nat_lt (length keys) 512
+abbrev pub most_links : ℕ
+most_links = 256
 
--- ---- owners
+abbrev pub most_links_of_node : ℕ
+most_links_of_node = 24
 
-abbrev pub is_owned : List KeyOwner → List ℕ → Bool
-is_owned owners key = list_any (λ o. bytes_eq o.key key) owners
+-- metrics are from 1
+abbrev pub most_metric : ℕ
+most_metric = 2 ^ 31 - 1
 
-abbrev pub with_key_owner : List KeyOwner → List ℕ → List ℕ → List KeyOwner
-with_key_owner owners key node = if is_owned owners key then owners else owners ++ record { key = key; node = node } ∷ []
+-- ---- commands
 
-abbrev pub with_owner : List KeyOwner → Command → List KeyOwner
-with_owner owners (Own node key value ttl) = with_key_owner owners key node
-with_owner owners _ = owners
+-- distinct keys: of records, and of set and own commands
+abbrev pub most_keys : ℕ
+most_keys = 512
 
--- the keys that own commands name, each with the node that owned it first
-unfoldable pub owners_in : List Command → List KeyOwner
-owners_in commands = fold with_owner [] commands
+-- distinct prefixes that a node advertises or aggregates
+abbrev pub most_prefixes_of_node : ℕ
+most_prefixes_of_node = 32
 
-abbrev pub has_other_owner : List KeyOwner → List ℕ → List ℕ → Bool
-has_other_owner owners key node = list_any (λ o. bytes_eq o.key key && not (bytes_eq o.node node)) owners
+abbrev pub most_settles : ℕ
+most_settles = 1000
 
--- the key is this text followed by the name of a declared node
-abbrev pub is_of_node : List NodeDecl → List ℕ → List ℕ → Bool
-is_of_node nodes start key = bytes_eq (take (length start) key) start && is_declared nodes (drop (length start) key)
+-- rounds of a settle, from 1
+abbrev pub most_rounds : ℕ
+most_rounds = 100000
 
--- the key of a record that a node of a full laboratory publishes
-abbrev pub is_record_key : Kind → List NodeDecl → List ℕ → Bool
-is_record_key kind.Stores nodes key = false
-is_record_key kind.Full nodes key = is_of_node nodes (codes "adj:") key || is_of_node nodes (codes "prefix:") key
+-- milliseconds
+abbrev pub most_moment : ℕ
+most_moment = 2 ^ 40
 
--- ---- prefixes
+-- acts of a script, from 1
+abbrev pub most_acts : ℕ
+most_acts = 256
 
-abbrev pub is_offered : List NodePrefix → List ℕ → Prefix → Bool
-is_offered offers node prefix = list_any (λ o. bytes_eq o.node node && is_same_prefix o.prefix prefix) offers
+-- for how many further messages an act holds one back, from 1
+abbrev pub most_delay : ℕ
+most_delay = 9
 
-abbrev pub with_node_prefix : List NodePrefix → List ℕ → Prefix → List NodePrefix
-with_node_prefix offers node prefix = if is_offered offers node prefix then offers else offers ++ record { node = node; prefix = prefix } ∷ []
+-- what selection compares of a prefix
+abbrev pub most_preference : ℕ
+most_preference = 2 ^ 31 - 1
 
-abbrev pub with_offer : List NodePrefix → Command → List NodePrefix
-with_offer offers (Advertise node entry) = with_node_prefix offers node entry.prefix
-with_offer offers (Aggregate node prefix min) = with_node_prefix offers node prefix
-with_offer offers _ = offers
+-- the routes that an aggregate waits for, from 1
+abbrev pub most_aggregated_routes : ℕ
+most_aggregated_routes = 1000
 
--- the distinct prefixes that each node advertises or aggregates, withdrawn since or not
-unfoldable pub offers_in : List Command → List NodePrefix
-offers_in commands = fold with_offer [] commands
+-- ---- defaults
 
--- the node has the prefix, or may have it
-unfoldable pub has_offer_room : List NodePrefix → List ℕ → Prefix → Bool
-has_offer_room offers node prefix =
-    is_offered offers node prefix || nat_lt (count_by (λ o. bytes_eq o.node node) offers) 32
+abbrev pub default_rounds : ℕ
+default_rounds = 1000
 
--- ---- settles and moments
+abbrev pub default_metric : ℕ
+default_metric = 1
 
-abbrev pub is_settle : Command → Bool
-is_settle (Settle rounds show) = true
-is_settle _ = false
+abbrev pub default_path : ℕ
+default_path = 1000
 
-abbrev pub settle_count : Command → ℕ
-settle_count c = cond (is_settle c) 1 0
+abbrev pub default_source : ℕ
+default_source = 100
 
-unfoldable pub settles_in : List Command → ℕ
-settles_in commands = count_by is_settle commands
-
--- the last of the commands is a settle
-unfoldable pub ends_in_settle : List Command → Bool
-ends_in_settle commands = fold (λ before c. is_settle c) false commands
-
-abbrev pub after_tick : Option ℕ → Command → Option ℕ
-after_tick moment (Tick to) = Some to
-after_tick moment _ = moment
-
--- the moment of the last tick, if there is one
-unfoldable pub last_tick : List Command → Option ℕ
-last_tick commands = fold after_tick None commands
-
--- the moment is after the last; the first may be any
-abbrev pub is_later : Option ℕ → ℕ → Bool
-is_later moment to = option_map_or (λ last. nat_lt last to) moment true
+abbrev pub default_distance : ℕ
+default_distance = 0

@@ -1,4 +1,5 @@
 ghost use Rattle.std.specs.Prelude.{◌≡◌, ◌≤◌, true, All, length};
+ghost use Rattle.net_laboratory.specs.Limits.{most_nodes, most_links};
 ghost use Rattle.net_laboratory.specs.Small.{NamesSmallLink};
 ghost use Rattle.net_laboratory.specs.Sound.{is_sound};
 
@@ -57,20 +58,20 @@ impl Scenario {
         }
     }
 
-    /// The nodes, in the order of their declarations: at most 64.
+    /// The nodes, in the order of their declarations: at most [`MOST_NODES`](crate::MOST_NODES).
     #[tactic(auto, using(crate::proofs::Room::few_nodes))]
     pub fn nodes(&self) -> &[NodeDecl]
         ensures nodes { result.now ≡ self.now.nodes }
-        ensures few { length result.now ≤ 64 }
+        ensures few { length result.now ≤ most_nodes }
     {
         self.nodes.as_slice()
     }
 
-    /// The links, in the order of their numbers: at most 256.
+    /// The links, in the order of their numbers: at most [`MOST_LINKS`](crate::MOST_LINKS).
     #[tactic(auto, using(crate::proofs::Room::few_links))]
     pub fn links(&self) -> &[LinkDecl]
         ensures links { result.now ≡ self.now.links }
-        ensures few { length result.now ≤ 256 }
+        ensures few { length result.now ≤ most_links }
     {
         self.links.as_slice()
     }
