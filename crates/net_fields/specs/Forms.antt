@@ -15,8 +15,8 @@ use Rattle.or_base.specs.declared.kind.Kind.TheVariants as kind
 use Rattle.or_prefix.specs.Reading.{prefix_of}
 use Rattle.net_fields.specs.declared.form.Form.{Form}
 use Rattle.net_fields.specs.declared.form.Form.TheVariants as form
-use Rattle.net_fields.specs.declared.show.Show.{Show}
-use Rattle.net_fields.specs.declared.show.Show.TheVariants as show
+use Rattle.net_laboratory.specs.declared.show.Show.{Show}
+use Rattle.net_laboratory.specs.declared.show.Show.TheVariants as show
 
 -- ---- texts
 

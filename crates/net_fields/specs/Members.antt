@@ -9,8 +9,8 @@ use Rattle.or_base.specs.declared.kind.Kind.{Kind}
 use Rattle.or_base.specs.declared.kind.Kind.TheVariants as kind
 use Rattle.or_base.specs.declared.prefix.Prefix.{Prefix}
 use Rattle.or_prefix.specs.Reading.{prefix_of}
-use Rattle.net_fields.specs.declared.show.Show.{Show}
-use Rattle.net_fields.specs.declared.show.Show.TheVariants as show
+use Rattle.net_laboratory.specs.declared.show.Show.{Show}
+use Rattle.net_laboratory.specs.declared.show.Show.TheVariants as show
 use Rattle.net_fields.specs.Forms.{as_natural, hex_bytes, kind_of, show_of, act_of}
 
 abbrev pub has : List ℕ → Data → Bool

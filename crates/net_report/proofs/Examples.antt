@@ -15,10 +15,10 @@ use Rattle.or_base.specs.declared.route.Route.{Route}
 use Rattle.or_base.specs.declared.value.KvValue.{KvValue}
 use Rattle.hex.specs.Hex.{encode_with}
 use Rattle.or_prefix.specs.Printing.{v4_text, prefix_text}
-use Rattle.net_fields.specs.declared.show.Show.{Show}
-use Rattle.net_fields.specs.declared.show.Show.TheVariants as show
-use Rattle.net_scenario.specs.declared.command.Command.TheVariants.{Settle, Tick}
-use Rattle.net_scenario.specs.Scenario.{Laboratory}
+use Rattle.net_laboratory.specs.declared.show.Show.{Show}
+use Rattle.net_laboratory.specs.declared.show.Show.TheVariants as show
+use Rattle.net_laboratory.specs.declared.command.Command.TheVariants.{Settle, Tick}
+use Rattle.net_laboratory.specs.Scenario.{Laboratory}
 use Rattle.net_record.specs.declared.record.NodeMark.{NodeMark}
 use Rattle.net_record.specs.declared.record.Record.{Record}
 use Rattle.net_record.specs.declared.record.SettleDone.{SettleDone}

@@ -6,7 +6,7 @@ use Rattle.std.specs.Iterator.Adapters.{zip_first, zip_second}
 use Rattle.std.specs.Slice.Iter.{iter_rest}
 use Rattle.std.specs.declared.iter.Zip.{Zip}
 use Rattle.or_base.specs.declared.entry.JournalEntry.{JournalEntry}
-use Rattle.net_scenario.specs.declared.declared.NodeDecl.{NodeDecl}
+use Rattle.net_laboratory.specs.declared.declared.NodeDecl.{NodeDecl}
 use Rattle.net_record.specs.declared.record.NodeMark.{NodeMark}
 use Rattle.net_report.specs.Report.{stores_text}
 

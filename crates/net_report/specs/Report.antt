@@ -17,12 +17,12 @@ use Rattle.or_base.specs.declared.session.SyncDone.{SyncDone}
 use Rattle.or_base.specs.declared.value.KvValue.{KvValue}
 use Rattle.or_base.specs.Journal.{holds, held_keys}
 use Rattle.or_prefix.specs.Printing.{prefix_text}
-use Rattle.net_fields.specs.declared.show.Show.{Show}
-use Rattle.net_fields.specs.declared.show.Show.TheVariants as show
-use Rattle.net_scenario.specs.declared.declared.NodeDecl.{NodeDecl}
-use Rattle.net_scenario.specs.declared.command.Command.{Command}
-use Rattle.net_scenario.specs.declared.command.Command.TheVariants.{Settle}
-use Rattle.net_scenario.specs.Scenario.{Laboratory}
+use Rattle.net_laboratory.specs.declared.show.Show.{Show}
+use Rattle.net_laboratory.specs.declared.show.Show.TheVariants as show
+use Rattle.net_laboratory.specs.declared.declared.NodeDecl.{NodeDecl}
+use Rattle.net_laboratory.specs.declared.command.Command.{Command}
+use Rattle.net_laboratory.specs.declared.command.Command.TheVariants.{Settle}
+use Rattle.net_laboratory.specs.Scenario.{Laboratory}
 use Rattle.net_record.specs.declared.record.AnswerDone.{AnswerDone}
 use Rattle.net_record.specs.declared.record.NodeMark.{NodeMark}
 use Rattle.net_record.specs.declared.record.SettleDone.{SettleDone}

@@ -14,9 +14,9 @@ use Rattle.net_fields.specs.Members.{text_at, number_at, number_or, kind_at, num
 use Rattle.net_fields.specs.Objects.{is_contradictory}
 use Rattle.net_scenario.specs.declared.statement.Statement.{Statement}
 use Rattle.net_scenario.specs.declared.statement.Statement.TheVariants as says
-use Rattle.net_scenario.specs.Scenario.{is_declared, is_end, is_interface}
+use Rattle.net_laboratory.specs.Scenario.{is_declared, is_end, is_interface}
 use Rattle.net_scenario.specs.Seen.{Seen, is_empty, admits, is_sound_so_far}
-use Rattle.net_scenario.specs.Sound.{admits_node, admits_link, is_metric}
+use Rattle.net_laboratory.specs.Sound.{admits_node, admits_link, is_metric}
 use Rattle.net_scenario.specs.Conditions.{is_full_at, interface_a, interface_b, is_repeated, passes_limit, is_misplaced}
 use Rattle.net_scenario.specs.Statement.{small_or, link_of, command_of, routing_command_of, statement_of}
 use Rattle.net_scenario.specs.Faults.{Line, line_of}

@@ -12,13 +12,13 @@ use Rattle.net_fields.specs.declared.word.Word.{Word}
 use Rattle.net_fields.specs.declared.word.Word.TheVariants as word
 use Rattle.net_fields.specs.Fields.{fields_of, needed, optional, metric, preference, lifetime}
 use Rattle.net_fields.specs.Members.{text_at, number_at, number_or, flag_at, show_at, prefix_at, value_at, acts_at}
-use Rattle.net_scenario.specs.declared.command.Command.{Command}
-use Rattle.net_scenario.specs.declared.command.Command.TheVariants.{Settle, Tick, Set, Own, Disown, Sync, Restart, Up, Down, Script, Get, Drain, LinkDrain, Metric, Advertise, Withdraw, Aggregate, Ask}
+use Rattle.net_laboratory.specs.declared.command.Command.{Command}
+use Rattle.net_laboratory.specs.declared.command.Command.TheVariants.{Settle, Tick, Set, Own, Disown, Sync, Restart, Up, Down, Script, Get, Drain, LinkDrain, Metric, Advertise, Withdraw, Aggregate, Ask}
 use Rattle.net_scenario.specs.declared.statement.Statement.TheVariants as says
-use Rattle.net_scenario.specs.Scenario.{is_declared, is_end_of}
-use Rattle.net_scenario.specs.Limits.{keys_in, has_key_room, owners_in, has_other_owner, is_record_key, offers_in, has_offer_room, settles_in}
+use Rattle.net_laboratory.specs.Scenario.{is_declared, is_end_of}
+use Rattle.net_laboratory.specs.Limits.{keys_in, has_key_room, owners_in, has_other_owner, is_record_key, offers_in, has_offer_room, settles_in}
 use Rattle.net_scenario.specs.Seen.{Seen, kind_in, declared_by, is_empty, admits}
-use Rattle.net_scenario.specs.Sound.{is_within, is_for_full, belongs, is_in_time, has_one_owner, has_room, lines_before, admits_command, is_lifetime, is_value, are_acts, is_preference, is_entry}
+use Rattle.net_laboratory.specs.Sound.{is_within, is_for_full, belongs, is_in_time, has_one_owner, has_room, lines_before, admits_command, is_lifetime, is_value, are_acts, is_preference, is_entry}
 use Rattle.net_scenario.specs.Conditions.{is_full, is_turn, is_too_many, passes_limit, is_misplaced, has_two_owners}
 use Rattle.net_scenario.specs.Statement.{small_or, link_at, node_at, key_at, prefix_or_any, any_prefix, pair_of, entry_of}
 use Rattle.net_scenario.specs.Faults.{Line}

@@ -15,11 +15,11 @@ use Rattle.net_fields.specs.Forms.{fits, is_long, is_no_prefix, is_no_script, he
 use Rattle.net_fields.specs.Members.{has, text_at, value_at}
 use Rattle.net_fields.specs.Objects.{meets, is_absent, has_other_member, has_unfit_field, is_contradictory, is_field_missing, has_field_that, has_long_field, has_bad_prefix, has_bad_script}
 use Rattle.net_fields.proofs.HexBytes.{half_said}
-use Rattle.net_scenario.specs.declared.declared.NodeDecl.{NodeDecl}
-use Rattle.net_scenario.specs.declared.declared.LinkDecl.{LinkDecl}
-use Rattle.net_scenario.specs.Scenario.{is_declared, is_end, is_interface}
+use Rattle.net_laboratory.specs.declared.declared.NodeDecl.{NodeDecl}
+use Rattle.net_laboratory.specs.declared.declared.LinkDecl.{LinkDecl}
+use Rattle.net_laboratory.specs.Scenario.{is_declared, is_end, is_interface}
 use Rattle.net_scenario.specs.Seen.{Seen, is_sound_so_far, is_opened, declared_by}
-use Rattle.net_scenario.specs.Sound.{are_admitted, admits_node, admits_link, admits_command, is_lifetime, is_metric}
+use Rattle.net_laboratory.specs.Sound.{are_admitted, admits_node, admits_link, admits_command, is_lifetime, is_metric}
 use Rattle.net_scenario.specs.Conditions.{is_bad_field, is_early, is_undeclared, is_no_end, is_unknown_name}
 use Rattle.net_scenario.specs.Faults.{Line, is_late, is_too_long}
 use Rattle.net_scenario.proofs.AdmittedRows.{NoFault}

@@ -15,8 +15,8 @@ use Rattle.net_fields.specs.declared.form.Form.TheVariants as form
 use Rattle.net_fields.specs.Forms.{is_name, is_key_text, as_natural, is_number_in, items_len, all_items, fits, is_long, is_no_prefix, is_no_script, act_of, is_act as names_act}
 use Rattle.net_fields.specs.Members.{naturals_in, act_in, acts_in}
 use Rattle.net_scenario.specs.Seen.{Seen}
-use Rattle.net_scenario.specs.Scenario.{is_declared}
-use Rattle.net_scenario.specs.Sound.{is_act, are_acts}
+use Rattle.net_laboratory.specs.Scenario.{is_declared}
+use Rattle.net_laboratory.specs.Sound.{is_act, are_acts}
 use Rattle.net_scenario.specs.Conditions.{is_undeclared}
 
 -- ---- tests

@@ -7,7 +7,7 @@ use Rattle.net_fields.specs.declared.word.Word.{Word}
 use Rattle.net_fields.specs.Objects.{has_long_field}
 use Rattle.net_scenario.specs.declared.statement.Statement.{Statement}
 use Rattle.net_scenario.specs.declared.fault.ScenarioFault.{ScenarioFault}
-use Rattle.net_scenario.specs.Scenario.{Laboratory}
+use Rattle.net_laboratory.specs.Scenario.{Laboratory}
 use Rattle.net_scenario.specs.Seen.{Seen, nothing_seen}
 use Rattle.net_scenario.specs.Faults.{Line, is_late, is_too_long, line_of}
 use Rattle.net_scenario.specs.Language.{with_first, lines_in, placed, lines_of, is_blank, fault_at, after_line, line_step, and_then, lines_read, is_all_blank, whole, scenario_of}

@@ -6,15 +6,15 @@ use Rattle.std.specs.Str.{bytes_eq}
 use Rattle.std.proofs.lemmas.Bool.Decides.{nat_tests}
 use Rattle.or_base.specs.Limits.{is_between, is_node_name}
 use Rattle.or_base.specs.declared.kind.Kind.{Kind}
-use Rattle.net_scenario.specs.declared.command.Command.{Command}
-use Rattle.net_scenario.specs.declared.declared.NodeDecl.{NodeDecl}
-use Rattle.net_scenario.specs.declared.declared.LinkDecl.{LinkDecl}
-use Rattle.net_scenario.specs.declared.schedule.Turn.{Turn}
+use Rattle.net_laboratory.specs.declared.command.Command.{Command}
+use Rattle.net_laboratory.specs.declared.declared.NodeDecl.{NodeDecl}
+use Rattle.net_laboratory.specs.declared.declared.LinkDecl.{LinkDecl}
+use Rattle.net_laboratory.specs.declared.schedule.Turn.{Turn}
 use Rattle.net_scenario.specs.declared.statement.Statement.{Statement}
 use Rattle.net_scenario.specs.declared.statement.Statement.TheVariants as says
-use Rattle.net_scenario.specs.Scenario.{Laboratory, is_declared}
-use Rattle.net_scenario.specs.Limits.{is_settle, ends_in_settle}
-use Rattle.net_scenario.specs.Sound.{Declared, is_lifetime, is_closing, closing, are_admitted, are_closed, admits_node, admits_link, admits_command, is_sound}
+use Rattle.net_laboratory.specs.Scenario.{Laboratory, is_declared}
+use Rattle.net_laboratory.specs.Limits.{is_settle, ends_in_settle}
+use Rattle.net_laboratory.specs.Sound.{Declared, is_lifetime, is_closing, closing, are_admitted, are_closed, admits_node, admits_link, admits_command, is_sound}
 use Rattle.net_scenario.specs.Seen.{Seen, declared_by, is_empty, is_opened, closed, given, with_line, admits, is_sound_so_far, scenario_in}
 use Rattle.net_scenario.proofs.Bools.{both, and_true, or_left, or_right, or_more, or_true, under, not_true, none_not_some, empty_is_nil}
 

@@ -3,15 +3,15 @@ use Rattle.std.proofs.Common.{◌≡◌, ℕ, ◌+◌, ◌≤◌, List, [], ◌�
 use Rattle.std.specs.List.{sum_by}
 use Rattle.std.proofs.lemmas.Cmp.{nat_list_eq_equiv}
 use Rattle.std.proofs.lemmas.List.Sums.{fold-append, sum_by-append, count_by-le-length}
-use Rattle.net_scenario.specs.declared.command.Command.{Command}
+use Rattle.net_laboratory.specs.declared.command.Command.{Command}
 use Rattle.or_base.specs.declared.kind.Kind.{Kind}
-use Rattle.net_scenario.specs.declared.declared.NodeDecl.{NodeDecl}
+use Rattle.net_laboratory.specs.declared.declared.NodeDecl.{NodeDecl}
 use Rattle.std.specs.Str.{bytes_eq}
-use Rattle.net_scenario.specs.Scenario.{is_declared}
+use Rattle.net_laboratory.specs.Scenario.{is_declared}
 use Rattle.net_scenario.specs.Tallied.{names_of}
 use Rattle.net_scenario.specs.Seen.{nothing_seen, is_sound_so_far}
 use Rattle.net_scenario.proofs.Soundness.{stays_sound}
-use Rattle.net_scenario.specs.Limits.{is_among, record_keys, with_record_keys, with_key, keys_in, with_owner, owners_in, with_offer, offers_in, is_settle, settle_count, settles_in, ends_in_settle, after_tick, last_tick}
+use Rattle.net_laboratory.specs.Limits.{is_among, record_keys, with_record_keys, with_key, keys_in, with_owner, owners_in, with_offer, offers_in, is_settle, settle_count, settles_in, ends_in_settle, after_tick, last_tick}
 
 -- ---- one command more
 

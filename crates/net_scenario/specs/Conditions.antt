@@ -13,10 +13,10 @@ use Rattle.net_fields.specs.Word.{is_for_full}
 use Rattle.net_fields.specs.Forms.{is_text_with, as_natural}
 use Rattle.net_fields.specs.Members.{text_at, text_or, number_or, prefix_at}
 use Rattle.net_fields.specs.Objects.{has_field_that, has_other_member, has_unfit_field, is_contradictory}
-use Rattle.net_scenario.specs.declared.declared.LinkDecl.{LinkDecl}
-use Rattle.net_scenario.specs.Scenario.{is_declared, is_end, is_interface, is_end_of}
-use Rattle.net_scenario.specs.Limits.{is_among, link_record_key, prefix_record_key, keys_in, has_key_room, owners_in, has_other_owner, is_record_key, offers_in, has_offer_room, settles_in, last_tick, is_later}
-use Rattle.net_scenario.specs.Sound.{lines_before}
+use Rattle.net_laboratory.specs.declared.declared.LinkDecl.{LinkDecl}
+use Rattle.net_laboratory.specs.Scenario.{is_declared, is_end, is_interface, is_end_of}
+use Rattle.net_laboratory.specs.Limits.{is_among, link_record_key, prefix_record_key, keys_in, has_key_room, owners_in, has_other_owner, is_record_key, offers_in, has_offer_room, settles_in, last_tick, is_later}
+use Rattle.net_laboratory.specs.Sound.{lines_before}
 use Rattle.net_scenario.specs.Seen.{Seen, kind_in, is_empty}
 
 -- the interfaces of a link: by default `if-` and the name of the node at the other end

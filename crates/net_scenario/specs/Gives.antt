@@ -6,7 +6,7 @@ use Rattle.net_scenario.specs.declared.fault.LineRefusal.TheVariants as refusal
 use Rattle.net_scenario.specs.declared.fault.ScenarioFault.{ScenarioFault}
 use Rattle.net_scenario.specs.declared.fault.ReadRefusal.{ReadRefusal}
 use Rattle.net_scenario.specs.declared.fault.ReadRefusal.TheVariants as whole
-use Rattle.net_scenario.specs.Scenario.{Laboratory}
+use Rattle.net_laboratory.specs.Scenario.{Laboratory}
 use Rattle.net_scenario.specs.Seen.{Seen}
 
 -- of one line

@@ -3,7 +3,7 @@ use Rattle.std.specs.Prelude.{ℕ, ◌+◌, min, List, [], ◌∷◌, length, Re
 use Rattle.std.specs.List.{list_all}
 use Rattle.net_scenario.specs.declared.statement.Statement.{Statement}
 use Rattle.net_scenario.specs.declared.fault.ScenarioFault.{ScenarioFault}
-use Rattle.net_scenario.specs.Scenario.{Laboratory}
+use Rattle.net_laboratory.specs.Scenario.{Laboratory}
 use Rattle.net_scenario.specs.Seen.{Seen, nothing_seen, with_line, scenario_in}
 use Rattle.net_scenario.specs.Faults.{Line, is_late, line_of}
 

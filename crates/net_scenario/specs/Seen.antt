@@ -2,16 +2,16 @@
 use Rattle.std.specs.Prelude.{ℕ, List, [], ◌∷◌, ◌++◌, Bool, true, false, ◌&&◌, ◌||◌, nat_le, nat_lt, length, Option, Some, None, is_some, is_none, unwrap_or, if◌then◌else◌}
 use Rattle.or_base.specs.declared.kind.Kind.{Kind}
 use Rattle.or_base.specs.declared.kind.Kind.TheVariants as kind
-use Rattle.net_scenario.specs.declared.declared.NodeDecl.{NodeDecl}
-use Rattle.net_scenario.specs.declared.declared.LinkDecl.{LinkDecl}
-use Rattle.net_scenario.specs.declared.command.Command.{Command}
-use Rattle.net_scenario.specs.declared.schedule.Turn.{Turn}
-use Rattle.net_scenario.specs.declared.schedule.Schedule.{Schedule}
+use Rattle.net_laboratory.specs.declared.declared.NodeDecl.{NodeDecl}
+use Rattle.net_laboratory.specs.declared.declared.LinkDecl.{LinkDecl}
+use Rattle.net_laboratory.specs.declared.command.Command.{Command}
+use Rattle.net_laboratory.specs.declared.schedule.Turn.{Turn}
+use Rattle.net_laboratory.specs.declared.schedule.Schedule.{Schedule}
 use Rattle.net_scenario.specs.declared.statement.Statement.{Statement}
 use Rattle.net_scenario.specs.declared.statement.Statement.TheVariants as says
-use Rattle.net_scenario.specs.Scenario.{Laboratory}
-use Rattle.net_scenario.specs.Limits.{ends_in_settle}
-use Rattle.net_scenario.specs.Sound.{Declared, are_admitted, admits_node, admits_link, admits_command, is_lifetime, closing}
+use Rattle.net_laboratory.specs.Scenario.{Laboratory}
+use Rattle.net_laboratory.specs.Limits.{ends_in_settle}
+use Rattle.net_laboratory.specs.Sound.{Declared, are_admitted, admits_node, admits_link, admits_command, is_lifetime, closing}
 
 pub record Seen : Type 0 where
   pub kind : Option Kind

@@ -7,9 +7,9 @@ use Rattle.or_base.specs.declared.value.Pair.{Pair}
 use Rattle.net_fields.specs.declared.word.Word.{Word}
 use Rattle.net_fields.specs.declared.word.Word.TheVariants as word
 use Rattle.net_fields.specs.Members.{text_at, text_or, number_at, number_or, flag_at, kind_at, show_at, prefix_at, value_at, numbers_at, acts_at}
-use Rattle.net_scenario.specs.declared.declared.LinkDecl.{LinkDecl}
-use Rattle.net_scenario.specs.declared.command.Command.{Command}
-use Rattle.net_scenario.specs.declared.command.Command.TheVariants.{Settle, Tick, Set, Own, Disown, Sync, Restart, Up, Down, Script, Get, Drain, LinkDrain, Metric, Advertise, Withdraw, Aggregate, Ask}
+use Rattle.net_laboratory.specs.declared.declared.LinkDecl.{LinkDecl}
+use Rattle.net_laboratory.specs.declared.command.Command.{Command}
+use Rattle.net_laboratory.specs.declared.command.Command.TheVariants.{Settle, Tick, Set, Own, Disown, Sync, Restart, Up, Down, Script, Get, Drain, LinkDrain, Metric, Advertise, Withdraw, Aggregate, Ask}
 use Rattle.net_scenario.specs.declared.statement.Statement.{Statement}
 use Rattle.net_scenario.specs.declared.statement.Statement.TheVariants as says
 use Rattle.net_scenario.specs.Conditions.{interface_a, interface_b}

@@ -7,8 +7,8 @@ ghost use Rattle.serde_json.specs.View.{view};
 ghost use Rattle.net_fields.specs.Fields.{entry_of};
 ghost use Rattle.net_fields.specs.Members.{text_at, number_or};
 ghost use Rattle.net_fields.specs.Objects.{meets, has_field_that};
-ghost use Rattle.net_scenario.specs.Scenario.{is_declared, is_end, is_end_of, is_interface, has_interface};
-ghost use Rattle.net_scenario.specs.Limits.{has_other_owner, is_of_node, is_record_key, has_offer_room};
+ghost use Rattle.net_laboratory.specs.Scenario.{is_declared, is_end, is_end_of, is_interface, has_interface};
+ghost use Rattle.net_laboratory.specs.Limits.{has_other_owner, is_of_node, is_record_key, has_offer_room};
 ghost use Rattle.net_scenario.specs.Conditions.{interface_by, interface_a, interface_b, is_interface_repeated, is_full_at, is_link_too_many, uncounted, are_record_keys_too_many, is_node_too_many, is_early, is_bad_field, is_undeclared, is_no_end, is_unknown_name, is_repeated, has_two_owners, is_key_too_many, is_prefix_too_many, passes_limit, is_line_too_many, is_too_many, is_misplaced};
 ghost use Rattle.net_scenario.specs.Tallied.{seen_in, IsTallied};
 

@@ -1,6 +1,6 @@
 ghost use Rattle.std.specs.Prelude.{◌≡◌, ◌<◌, ◌^◌, ◌++◌, ◌∷◌, [], length, true, OnOk, map};
 ghost use Rattle.or_base.specs.declared.kind.Kind.TheVariants.{Stores};
-ghost use Rattle.net_scenario.specs.Scenario.{is_declared};
+ghost use Rattle.net_laboratory.specs.Scenario.{is_declared};
 ghost use Rattle.net_scenario.specs.Seen.{nothing_seen, kind_in, with_line, admits};
 ghost use Rattle.net_scenario.specs.Tallied.{seen_in, IsTallied};
 ghost use Rattle.net_scenario.specs.declared.statement.Statement.TheVariants.{Lab, Node, Link, Command as SaysCommand, Turn as SaysTurn};

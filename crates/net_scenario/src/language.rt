@@ -4,7 +4,7 @@ ghost use Rattle.std.specs.Prelude.{◌≡◌, ◌+◌, ◌<◌, ◌≤◌, ◌�
 ghost use Rattle.net_scenario.specs.Faults.{line_of};
 ghost use Rattle.net_scenario.specs.Gives.{GivesSeen, GivesScenario};
 ghost use Rattle.net_scenario.specs.Language.{is_blank_byte, is_blank, is_all_blank, lines_in, fault_at, after_line, line_step, scenario_of};
-ghost use Rattle.net_scenario.specs.Limits.{ends_in_settle};
+ghost use Rattle.net_laboratory.specs.Limits.{ends_in_settle};
 ghost use Rattle.net_scenario.specs.Seen.{closed, given, scenario_in};
 ghost use Rattle.net_scenario.specs.Tallied.{seen_in, line_at, IsTallied};
 ghost use Rattle.net_scenario.specs.declared.fault.ReadRefusal.TheVariants.{Fault};

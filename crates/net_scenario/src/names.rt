@@ -1,5 +1,5 @@
 ghost use Rattle.std.specs.Prelude.{◌≡◌, [], length, OnOk};
-ghost use Rattle.net_scenario.specs.Limits.{is_among, with_name};
+ghost use Rattle.net_laboratory.specs.Limits.{is_among, with_name};
 
 use indexmap::IndexSet;
 use or_base::NoMemory;

@@ -4,7 +4,7 @@ ghost use Rattle.std.specs.Prelude.{◌≡◌, codes, IfOk};
 ghost use Rattle.serde_json.specs.View.{view};
 ghost use Rattle.net_fields.specs.Members.{text_at, value_at, number_at, acts_at, numbers_at};
 ghost use Rattle.net_scenario.specs.Statement.{small_or, node_at, key_at, link_at, prefix_or_any, link_of, originator_at, pair_of, entry_of, routing_command_of, command_of, statement_of};
-ghost use Rattle.net_scenario.specs.declared.command.Command.TheVariants.{Own, Script};
+ghost use Rattle.net_laboratory.specs.declared.command.Command.TheVariants.{Own, Script};
 
 use crate::command::Command;
 use crate::conditions::{interface_a, interface_b};

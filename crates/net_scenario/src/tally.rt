@@ -1,5 +1,5 @@
 ghost use Rattle.std.specs.Prelude.{◌≡◌, ◌+◌, ◌<◌, ◌^◌, ◌++◌, [], None, false, OnOk, IfOk, string_bytes};
-ghost use Rattle.net_scenario.specs.Limits.{with_key, with_owned, with_owner, with_offered, with_offer, with_record_keys, is_owned, is_offered, is_settle, after_tick, settle_count};
+ghost use Rattle.net_laboratory.specs.Limits.{with_key, with_owned, with_owner, with_offered, with_offer, with_record_keys, is_owned, is_offered, is_settle, after_tick, settle_count};
 
 use crate::command::Command;
 use crate::declared::NodeDecl;

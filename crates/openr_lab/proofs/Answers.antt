@@ -1,6 +1,6 @@
 -- The answer to a scenario, from the record of its run.
 use Rattle.std.proofs.Common.{◌≡◌, Bool, ℕ, List, Some, sym, ◌∙◌, ap}
-use Rattle.net_scenario.specs.Scenario.{Laboratory}
+use Rattle.net_laboratory.specs.Scenario.{Laboratory}
 use Rattle.net_record.specs.declared.record.Record.{Record}
 use Rattle.net_record.specs.Rounds.{round_robin}
 use Rattle.net_record.specs.Records.{IsSettled, IsUnsettled}

@@ -3,7 +3,7 @@ use Rattle.std.specs.Prelude.{ℕ, List, ◌++◌, ◌==◌, Option, Some, None,
 use Rattle.std.specs.Fmt.{decimal}
 use Rattle.lab_words.specs.declared.words.Words.{Words}
 use Rattle.net_scenario.specs.declared.fault.ScenarioFault.{ScenarioFault}
-use Rattle.net_scenario.specs.Scenario.{Laboratory}
+use Rattle.net_laboratory.specs.Scenario.{Laboratory}
 use Rattle.net_scenario.specs.Language.{scenario_of}
 use Rattle.net_record.specs.declared.record.Record.{Record}
 use Rattle.net_record.specs.Rounds.{round_robin}

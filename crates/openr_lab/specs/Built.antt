@@ -6,9 +6,9 @@ use Rattle.lab_words.specs.declared.words.Mode.TheVariants.{Replay}
 use Rattle.lab_words.specs.declared.words.Words.{Words}
 use Rattle.or_base.specs.declared.kind.Kind.{Kind}
 use Rattle.or_base.specs.declared.kind.Kind.TheVariants.{Stores, Full}
-use Rattle.net_scenario.specs.declared.command.Command.{Command}
-use Rattle.net_scenario.specs.declared.command.Command.TheVariants.{Settle, Tick, Set, Sync, Restart, Up, Down, Script, Get}
-use Rattle.net_scenario.specs.Scenario.{Laboratory}
+use Rattle.net_laboratory.specs.declared.command.Command.{Command}
+use Rattle.net_laboratory.specs.declared.command.Command.TheVariants.{Settle, Tick, Set, Sync, Restart, Up, Down, Script, Get}
+use Rattle.net_laboratory.specs.Scenario.{Laboratory}
 
 -- the program has the mode: it replays, and does nothing else
 abbrev pub is_mode_built : Mode → Bool

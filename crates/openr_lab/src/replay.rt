@@ -1,5 +1,5 @@
 ghost use Rattle.std.specs.Prelude.{◌≡◌, ◌≤◌, ◌⊎◌, Ok, None, IfOk, length, true};
-ghost use Rattle.net_scenario.specs.Scenario.{Laboratory};
+ghost use Rattle.net_laboratory.specs.Scenario.{Laboratory};
 ghost use Rattle.net_scenario.specs.Language.{scenario_of};
 ghost use Rattle.openr_lab.specs.Built.{is_built};
 ghost use Rattle.openr_lab.specs.Answer.{answer_ran, answer_for, answer_to, not_built_line, fault_line};

@@ -1,6 +1,6 @@
 use Rattle.std.proofs.Common.{◌≡◌, ap, ◌∙◌, rules}
 use Rattle.net_scenario.specs.Seen.{scenario_in}
-use Rattle.net_scenario.specs.Sound.{is_sound}
+use Rattle.net_laboratory.specs.Sound.{is_sound}
 use Rattle.net_scenario.specs.Tallied.{seen_in}
 use Rattle.net_scenario.proofs.Soundness.{scenario_is_sound}
 use Rattle.net_scenario.proofs.language.finished.Goals as goal

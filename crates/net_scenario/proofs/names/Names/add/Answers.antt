@@ -2,7 +2,7 @@ use Rattle.std.proofs.Common.{◌≡◌, ◌∙◌, ◌++◌, ◌∷◌, [], sym
 use Rattle.std.proofs.lemmas.List.{map-append}
 use Rattle.std.specs.List.{list_any}
 use Rattle.std.specs.Str.{bytes_eq}
-use Rattle.net_scenario.specs.Limits.{is_among}
+use Rattle.net_laboratory.specs.Limits.{is_among}
 use Rattle.net_scenario.proofs.Lists.{list_any-map, insert_new, with_new}
 use Rattle.net_scenario.proofs.names.Names.add.Goals as goal
 

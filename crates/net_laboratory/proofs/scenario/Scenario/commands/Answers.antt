@@ -1,9 +1,9 @@
 use Rattle.std.proofs.Common.{rules}
 use Rattle.std.proofs.lemmas.List.Elements.{All-same}
-use Rattle.net_scenario.specs.Scenario.{Laboratory}
-use Rattle.net_scenario.specs.Small.{NamesSmallLink}
-use Rattle.net_scenario.proofs.Smallness.{small_commands}
-use Rattle.net_scenario.proofs.scenario.Scenario.commands.Goals as goal
+use Rattle.net_laboratory.specs.Scenario.{Laboratory}
+use Rattle.net_laboratory.specs.Small.{NamesSmallLink}
+use Rattle.net_laboratory.proofs.Smallness.{small_commands}
+use Rattle.net_laboratory.proofs.scenario.Scenario.commands.Goals as goal
 
 pub returns-clause-small : goal.returns-clause-small
 returns-clause-small c =

@@ -4,10 +4,10 @@ use Rattle.std.specs.Str.{bytes_eq}
 use Rattle.std.specs.List.{list_any}
 use Rattle.std.specs.Option.{option_map_or}
 use Rattle.or_base.specs.declared.kind.Kind.{Kind}
-use Rattle.net_scenario.specs.declared.declared.NodeDecl.{NodeDecl}
-use Rattle.net_scenario.specs.declared.declared.LinkDecl.{LinkDecl}
-use Rattle.net_scenario.specs.declared.command.Command.{Command}
-use Rattle.net_scenario.specs.declared.schedule.Schedule.{Schedule}
+use Rattle.net_laboratory.specs.declared.declared.NodeDecl.{NodeDecl}
+use Rattle.net_laboratory.specs.declared.declared.LinkDecl.{LinkDecl}
+use Rattle.net_laboratory.specs.declared.command.Command.{Command}
+use Rattle.net_laboratory.specs.declared.schedule.Schedule.{Schedule}
 
 -- What a scenario declares, and what is done then. The lifetime is that of the records that nodes publish; turns are
 -- given where the scenario has turn lines.

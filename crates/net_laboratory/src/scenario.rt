@@ -1,5 +1,7 @@
-ghost use Rattle.std.specs.Prelude.{◌≡◌, ◌≤◌, All, length};
-ghost use Rattle.net_scenario.specs.Small.{NamesSmallLink};
+ghost use Rattle.std.specs.Prelude.{◌≡◌, ◌≤◌, true, All, length};
+ghost use Rattle.net_laboratory.specs.Limits.{most_nodes, most_links};
+ghost use Rattle.net_laboratory.specs.Small.{NamesSmallLink};
+ghost use Rattle.net_laboratory.specs.Sound.{is_sound};
 
 use crate::command::Command;
 use crate::declared::{LinkDecl, NodeDecl};
@@ -23,8 +25,8 @@ pub struct Scenario {
 
 impl Model for Scenario {
     ghost use Rattle.std.specs.Prelude.{IsTrue};
-    ghost use Rattle.net_scenario.specs.Scenario.{Laboratory};
-    ghost use Rattle.net_scenario.specs.Sound.{is_sound};
+    ghost use Rattle.net_laboratory.specs.Scenario.{Laboratory};
+    ghost use Rattle.net_laboratory.specs.Sound.{is_sound};
 
     ghost Value = { Laboratory };
 
@@ -34,20 +36,42 @@ impl Model for Scenario {
 }
 
 impl Scenario {
-    /// The nodes, in the order of their declarations: at most 64.
-    #[tactic(auto, using(crate::proofs::Soundness::few_nodes))]
+    /// The scenario with these declarations and commands, which keep all limits in order.
+    pub fn new(
+        kind: Kind,
+        ttl: Option<u64>,
+        nodes: Seq<NodeDecl>,
+        links: Seq<LinkDecl>,
+        commands: Seq<Command>,
+        turns: Option<Schedule>,
+    ) -> Scenario
+        requires { is_sound (record { kind = kind; ttl = ttl; nodes = nodes; links = links; commands = commands; turns = turns }) ≡ true }
+        ensures { result ≡ record { kind = kind; ttl = ttl; nodes = nodes; links = links; commands = commands; turns = turns } }
+    {
+        Scenario {
+            kind,
+            ttl,
+            nodes,
+            links,
+            commands,
+            turns,
+        }
+    }
+
+    /// The nodes, in the order of their declarations: at most [`MOST_NODES`](crate::MOST_NODES).
+    #[tactic(auto, using(crate::proofs::Room::few_nodes))]
     pub fn nodes(&self) -> &[NodeDecl]
         ensures nodes { result.now ≡ self.now.nodes }
-        ensures few { length result.now ≤ 64 }
+        ensures few { length result.now ≤ most_nodes }
     {
         self.nodes.as_slice()
     }
 
-    /// The links, in the order of their numbers: at most 256.
-    #[tactic(auto, using(crate::proofs::Soundness::few_links))]
+    /// The links, in the order of their numbers: at most [`MOST_LINKS`](crate::MOST_LINKS).
+    #[tactic(auto, using(crate::proofs::Room::few_links))]
     pub fn links(&self) -> &[LinkDecl]
         ensures links { result.now ≡ self.now.links }
-        ensures few { length result.now ≤ 256 }
+        ensures few { length result.now ≤ most_links }
     {
         self.links.as_slice()
     }

@@ -1,4 +1,4 @@
-use net_fields::Show;
+use crate::show::Show;
 use or_base::{Act, Bytes, Key, Name, Pair, Prefix, PrefixEntry, Seq};
 
 /// What is done in a laboratory, with the defaults filled in. A settle ends a phase. Moments and lifetimes are in

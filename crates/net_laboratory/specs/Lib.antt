@@ -1,0 +1,5 @@
+pub mod Scenario
+pub mod Limits
+pub mod Amounts
+pub mod Sound
+pub mod Small
