@@ -6,17 +6,18 @@ use Rattle.or_base.specs.declared.item.Stamped.{Stamped}
 use Rattle.or_actor.specs.declared.output.Output.{Output}
 use Rattle.or_actor.specs.declared.output.Output.TheVariants.{To}
 use Rattle.net_record.specs.declared.wire.Wire.{Wire}
-use Rattle.net_record.specs.World.{put, lane_from, delivered}
+use Rattle.net_record.specs.Wires.{lane_of}
+use Rattle.net_record.specs.World.{put, deliver}
 
 pub length-put : (lanes : List (List Stamped)) (lane : Option ℕ) (s : Stamped) → length (put lanes lane s) ≡ length lanes
 length-put lanes None s = refl
 length-put lanes (Some lane) s = length-set lanes lane (get_or lanes lane [] ++ s ∷ [])
 
-pub length-delivered : (wires : List Wire) (writer stamp : ℕ) (lanes : List (List Stamped)) (outputs : List Output) → length (delivered wires writer stamp lanes outputs) ≡ length lanes
-length-delivered wires writer stamp lanes [] = refl
-length-delivered wires writer stamp lanes (To port item ∷ outputs) =
-    length-delivered wires writer stamp (put lanes (lane_from 0 wires writer port) (record { stamp = stamp; item = item })) outputs
-    ∙ length-put lanes (lane_from 0 wires writer port) (record { stamp = stamp; item = item })
+pub length-deliver : (wires : List Wire) (writer stamp : ℕ) (lanes : List (List Stamped)) (outputs : List Output) → length (deliver wires writer stamp lanes outputs) ≡ length lanes
+length-deliver wires writer stamp lanes [] = refl
+length-deliver wires writer stamp lanes (To port item ∷ outputs) =
+    length-deliver wires writer stamp (put lanes (lane_of wires writer port) (record { stamp = stamp; item = item })) outputs
+    ∙ length-put lanes (lane_of wires writer port) (record { stamp = stamp; item = item })
 
 put_here : (lanes : List (List Stamped)) (lane : ℕ) (s : Stamped) → length (get_or lanes lane []) ≤ length (get_or (set lanes lane (get_or lanes lane [] ++ s ∷ [])) lane [])
 put_here lanes lane s =
@@ -34,12 +35,12 @@ put_keeps lanes (Some to) s lane =
       | inr other ↦ omega (arith, ap length (get_or-set_other lanes to lane (get_or lanes to [] ++ s ∷ []) [] other))
     ]
 
-pub delivered_keeps : (wires : List Wire) (writer stamp : ℕ) (lanes : List (List Stamped)) (outputs : List Output) (lane : ℕ)
-    → length (get_or lanes lane []) ≤ length (get_or (delivered wires writer stamp lanes outputs) lane [])
-delivered_keeps wires writer stamp lanes [] lane = omega arith
-delivered_keeps wires writer stamp lanes (To port item ∷ outputs) lane =
+pub deliver_keeps : (wires : List Wire) (writer stamp : ℕ) (lanes : List (List Stamped)) (outputs : List Output) (lane : ℕ)
+    → length (get_or lanes lane []) ≤ length (get_or (deliver wires writer stamp lanes outputs) lane [])
+deliver_keeps wires writer stamp lanes [] lane = omega arith
+deliver_keeps wires writer stamp lanes (To port item ∷ outputs) lane =
     omega (
       arith,
-      put_keeps lanes (lane_from 0 wires writer port) (record { stamp = stamp; item = item }) lane,
-      delivered_keeps wires writer stamp (put lanes (lane_from 0 wires writer port) (record { stamp = stamp; item = item })) outputs lane,
+      put_keeps lanes (lane_of wires writer port) (record { stamp = stamp; item = item }) lane,
+      deliver_keeps wires writer stamp (put lanes (lane_of wires writer port) (record { stamp = stamp; item = item })) outputs lane,
     )

@@ -10,23 +10,23 @@ use Rattle.net_record.specs.declared.actor.ActorState.{ActorState}
 use Rattle.net_record.specs.Roles.{roles}
 use Rattle.net_record.specs.Wires.{wires}
 use Rattle.net_record.specs.Phases.{phases}
-use Rattle.net_record.specs.declared.lookup.Look.{Look}
-use Rattle.net_record.specs.Actors.{look}
-use Rattle.net_record.specs.Answers.{desks_asked, given}
-use Rattle.net_record.specs.World.{WorldState, waiting, turn, turn_of, turn_by, reader_of, is_empty, is_drained, issued, settled, settle_done, start}
+use Rattle.or_actor.specs.Steps.{TurnMade}
+use Rattle.net_record.specs.Actors.{made_by}
+use Rattle.net_record.specs.Answers.{desks_asked, giving_of}
+use Rattle.net_record.specs.World.{WorldState, waiting, turn, turn_of, turn_by, reader_of, is_empty, is_drained, issue, settle, settle_done, start}
 use Rattle.net_record.specs.Budget.{is_over}
-use Rattle.net_record.specs.Rounds.{Marked, longest, turns_on, round_from, round, after_round, rounds_of, phase_of, settle_of, rounds_from, round_robin}
+use Rattle.net_record.specs.Rounds.{Marked, longest, turns_on, round_from, round, after_round, rounds_of, phase_of, settle_after, rounds_from, round_robin}
 use Rattle.net_record.proofs.RoundRuns.{goes_on, drained-or}
 use Rattle.net_record.specs.Ends.{SettledRoundsEndDrained}
 
-settles-turn_of : (w : WorldState) (lane at reader : ℕ) (s : Stamped) (others : List Stamped) (actor : ActorState) (found : Look) → (turn_of w lane at reader s others actor found).settles ≡ w.settles
+settles-turn_of : (w : WorldState) (reader : ℕ) (others : List Stamped) (actor : ActorState) (m : TurnMade) → (turn_of w reader others actor m).settles ≡ w.settles
 unfolding turn_of
-settles-turn_of w lane at reader s others actor found = refl
+settles-turn_of w reader others actor m = refl
 
 settles-turn_by : (w : WorldState) (lane at reader : ℕ) (items : List Stamped) (actor : Option ActorState) → (turn_by w lane at reader items actor).settles ≡ w.settles
 settles-turn_by w lane at reader [] actor = refl
 settles-turn_by w lane at reader (s ∷ others) None = refl
-settles-turn_by w lane at reader (s ∷ others) (Some actor) = settles-turn_of w lane at reader s others actor (look w.actors reader actor.part at s.item)
+settles-turn_by w lane at reader (s ∷ others) (Some actor) = settles-turn_of w reader others actor (made_by w.actors actor lane at s)
 
 settles-turn : (w : WorldState) (lane at : ℕ) → (turn w lane at).settles ≡ w.settles
 unfolding turn
@@ -60,17 +60,17 @@ settles-rounds_of m zero = refl
 settles-rounds_of m (suc count) =
     settles_if (is_drained m.world || is_over m.world) m (rounds_of (after_round m) count) (settles-rounds_of (after_round m) count ∙ settles-round m.world)
 
-pub settles-issued : (w : WorldState) (issues : List Output) → (issued w issues).settles ≡ w.settles
-unfolding issued
-settles-issued w issues = refl
+pub settles-issue : (w : WorldState) (issues : List Output) → (issue w issues).settles ≡ w.settles
+unfolding issue
+settles-issue w issues = refl
 
-settles-settled : (moment : ℕ) (asked : List ℕ) (w : WorldState) → length (settled moment asked w).settles ≡ length w.settles + 1
-unfolding settled
-settles-settled moment asked w = length_push w.settles (settle_done moment w (given (record { actors = w.actors; answers = [] }) asked).answers)
+settles-settle : (moment : ℕ) (asked : List ℕ) (w : WorldState) → length (settle moment asked w).settles ≡ length w.settles + 1
+unfolding settle
+settles-settle moment asked w = length_push w.settles (settle_done moment (length w.turns) w.actors (giving_of w.actors asked).answers)
 
-drained-settled : (moment : ℕ) (asked : List ℕ) (w : WorldState) → is_drained (settled moment asked w) ≡ is_drained w
-unfolding settled
-drained-settled moment asked w = refl
+drained-settle : (moment : ℕ) (asked : List ℕ) (w : WorldState) → is_drained (settle moment asked w) ≡ is_drained w
+unfolding settle
+drained-settle moment asked w = refl
 
 -- a phase that settles leaves the world drained, with one settle more
 abbrev Ends : List Phase → Type 0
@@ -79,13 +79,13 @@ Ends phases =
     → (is_drained (rounds_from number m phases).last.world ≡ true) × (length (rounds_from number m phases).last.world.settles ≡ length m.world.settles + length phases)
 
 ends_phase : (phases : List Phase) → Ends phases → (number : ℕ) (before : ℕ) (phase : Phase) (done : Marked) (unsettled over : Bool) → is_over done.world || not (is_drained done.world) ≡ unsettled
-    → length done.world.settles ≡ before → (goes_on unsettled over number done (settle_of phase done) phases).unsettled ≡ None
-    → (is_drained (goes_on unsettled over number done (settle_of phase done) phases).last.world ≡ true)
-    × (length (goes_on unsettled over number done (settle_of phase done) phases).last.world.settles ≡ before + suc (length phases))
+    → length done.world.settles ≡ before → (goes_on unsettled over number done (settle_after phase done) phases).unsettled ≡ None
+    → (is_drained (goes_on unsettled over number done (settle_after phase done) phases).last.world ≡ true)
+    × (length (goes_on unsettled over number done (settle_after phase done) phases).last.world.settles ≡ before + suc (length phases))
 ends_phase phases others number before phase done false false e same settles =
     let drained = drained-or (is_over done.world) (is_drained done.world) e in
-    let end = others (number + 1) (settle_of phase done) (drained-settled phase.moment (desks_asked phase.issues) done.world ∙ drained) settles in
-    (end.0, omega (arith, end.1, settles-settled phase.moment (desks_asked phase.issues) done.world, same))
+    let end = others (number + 1) (settle_after phase done) (drained-settle phase.moment (desks_asked phase.issues) done.world ∙ drained) settles in
+    (end.0, omega (arith, end.1, settles-settle phase.moment (desks_asked phase.issues) done.world, same))
 ends_phase phases others number before phase done false true e same settles = cc settles
 ends_phase phases others number before phase done true over e same settles = cc settles
 
@@ -93,8 +93,8 @@ ends : (phases : List Phase) → Ends phases
 ends [] number m drained settles = (drained, omega arith)
 ends (phase ∷ phases) number m drained settles =
     let done = phase_of m phase in
-    ends_phase phases (ends phases) number (length m.world.settles) phase done (is_over done.world || not (is_drained done.world)) (is_over (settle_of phase done).world) refl
-    (ap length (settles-rounds_of (record { world = issued m.world phase.issues; marks = m.marks }) phase.rounds ∙ settles-issued m.world phase.issues)) settles
+    ends_phase phases (ends phases) number (length m.world.settles) phase done (is_over done.world || not (is_drained done.world)) (is_over (settle_after phase done).world) refl
+    (ap length (settles-rounds_of (record { world = issue m.world phase.issues; marks = m.marks }) phase.rounds ∙ settles-issue m.world phase.issues)) settles
 
 none_wait : (n : ℕ) → list_all is_empty (replicate n []) ≡ true
 none_wait zero = refl

@@ -2,23 +2,26 @@
 use Rattle.std.proofs.Common.{◌≡◌, ℕ, Some, None, [], ◌∷◌, List, refl}
 use Rattle.std.specs.Prelude.{codes}
 use Rattle.or_base.specs.declared.asked.Asked.TheVariants.{Key}
+use Rattle.or_base.specs.declared.asked.Told.{Told}
 use Rattle.or_base.specs.declared.asked.Told.TheVariants.{Value, Nothing, Behind}
 use Rattle.or_base.specs.declared.entry.JournalEntry.{JournalEntry}
 use Rattle.or_base.specs.declared.entry.JournalEntry.TheVariants.{Merged, Cleared}
 use Rattle.or_base.specs.declared.origin.Origin.TheVariants.{Local}
 use Rattle.or_base.specs.declared.value.KvValue.{KvValue}
 use Rattle.or_base.specs.declared.kind.Kind.TheVariants.{Stores}
-use Rattle.net_scenario.specs.Scenario.{Laboratory}
+use Rattle.net_laboratory.specs.Scenario.{Laboratory}
 use Rattle.kv_store.specs.Store.{new_store}
 use Rattle.net_record.specs.declared.wire.Wire.{Wire}
-use Rattle.net_record.specs.declared.part.Part.TheVariants.{Store, Desk}
+use Rattle.net_record.specs.declared.kinds.AnyModule.TheVariants.{Store}
+use Rattle.net_record.specs.declared.part.Part.TheVariants.{Desk, Module}
+use Rattle.net_record.specs.declared.desk.Question.{Question}
 use Rattle.net_record.specs.declared.actor.ActorState.{ActorState}
 use Rattle.net_record.specs.declared.record.AnswerDone.{AnswerDone}
 use Rattle.net_record.specs.Roles.{roles}
 use Rattle.net_record.specs.Wires.{wires}
-use Rattle.net_record.specs.Desk.{DeskState, told_at, desk_after}
-use Rattle.net_record.specs.Actors.{no_actor, look_in, range_for}
-use Rattle.net_record.specs.Answers.{give, given}
+use Rattle.net_record.specs.Desk.{DeskState, told_to, answer_to, with_question}
+use Rattle.net_record.specs.Actors.{no_actor, made_at, range_asked, answer_of}
+use Rattle.net_record.specs.Answers.{give, giving_of}
 
 -- ---- lanes. The actors are 0 the driver, 1 and 2 the store and the desk of a, 3 and 4 those of b, and 5 the link.
 
@@ -51,61 +54,68 @@ journal =
     ∷ Merged (record { key = codes "x"; value = value_of 2 }) 0 Local ∷ []
 
 abbrev store : ActorState
-store = record { part = Store (record (new_store (codes "a")) { journal = journal }); clock = 9; told = 0; made = 5 ∷ 5 ∷ 9 ∷ [] }
+store = record { part = Module (Store (record (new_store (codes "a")) { journal = journal })); clock = 9; told = 0; made = 5 ∷ 5 ∷ 9 ∷ [] }
 
--- as many entries as were seen are not behind, and one fewer is
-pub told-seen : told_at 3 3 (Some (value_of 1)) ≡ Value (value_of 1)
-told-seen = refl
-
-pub told-nothing : told_at 3 3 None ≡ Nothing
-told-nothing = refl
-
-pub told-behind : told_at 3 2 (Some (value_of 1)) ≡ Behind 2
-told-behind = refl
+abbrev question : ℕ → ℕ → Question
+question at seen = record { key = codes "x"; at = at; seen = seen }
 
 -- no entries, one, two and all
-pub look-none : look_in store 0 (Some (codes "x")) ≡ record { made = 0; held = None }
-look-none = refl
+pub told-none : told_to journal (question 0 0) ≡ Nothing
+unfolding told_to
+told-none = refl
 
-pub look-one : look_in store 1 (Some (codes "x")) ≡ record { made = 5; held = Some (value_of 1) }
-look-one = refl
+pub told-one : told_to journal (question 1 0) ≡ Value (value_of 1)
+unfolding told_to
+told-one = refl
 
-pub look-two : look_in store 2 (Some (codes "x")) ≡ record { made = 5; held = None }
-look-two = refl
+pub told-two : told_to journal (question 2 0) ≡ Nothing
+unfolding told_to
+told-two = refl
 
-pub look-all : look_in store 3 (Some (codes "x")) ≡ record { made = 9; held = Some (value_of 2) }
-look-all = refl
+-- as many entries as were seen are not behind, and one fewer is
+pub told-all : told_to journal (question 3 3) ≡ Value (value_of 2)
+unfolding told_to
+told-all = refl
+
+pub told-behind : told_to journal (question 2 3) ≡ Behind 2
+unfolding told_to
+told-behind = refl
+
+-- the stamps of the turns that made these lengths
+pub made-none : made_at store.made 0 ≡ 0
+made-none = refl
+
+pub made-two : made_at store.made 2 ≡ 5
+made-two = refl
+
+pub made-all : made_at store.made 3 ≡ 9
+made-all = refl
+
+-- ---- desks. The first of these actors is the store of a, which the desk knows by its number, wherever it stands.
+
+abbrev desk : DeskState
+desk = record { node = codes "a"; store = 0; seen = 1; last = 2; questions = [] }
 
 -- a desk that found two entries last may find two or three
-abbrev desk : DeskState
-desk = record { node = codes "a"; seen = 1; last = 2; answers = [] }
-
-pub range-desk : range_for (Desk desk) journal (Some (codes "x")) ≡ record { least = 2; most = 3 }
+pub range-desk : range_asked (store ∷ no_actor ∷ []) (Some desk) (Some (codes "x")) ≡ record { least = 2; most = 3 }
 range-desk = refl
 
--- with three it has seen them
-pub asked-desk : desk_after desk (Some (codes "x")) 3 (Some (value_of 2))
-    ≡ record { node = codes "a"; seen = 3; last = 3; answers = record { node = codes "a"; asked = Key (codes "x"); told = Value (value_of 2) } ∷ [] }
+-- with three it has seen them, and keeps what it had seen before
+pub asked-desk : with_question desk (Some (codes "x")) 3 ≡ record { node = codes "a"; store = 0; seen = 3; last = 3; questions = question 3 1 ∷ [] }
 asked-desk = refl
 
--- and is behind where it had seen more
-pub behind-desk : desk_after (record desk { seen = 4 }) (Some (codes "x")) 3 None
-    ≡ record { node = codes "a"; seen = 4; last = 3; answers = record { node = codes "a"; asked = Key (codes "x"); told = Behind 3 } ∷ [] }
-behind-desk = refl
+-- ---- answers stand in the order of the questions: here of b, of a and of b again, each of which finds all three entries
 
--- answers stand in the order of the questions: here of b, of a and of b again. Actor 2 is the desk of a, and 4 that of b.
-abbrev answer : List ℕ → List ℕ → AnswerDone
-answer node key = record { node = node; asked = Key key; told = Nothing }
-
-abbrev desk_with : List ℕ → List AnswerDone → ActorState
-desk_with node answers = record { part = Desk (record { node = node; seen = 0; last = 0; answers = answers }); clock = 0; told = 0; made = [] }
+abbrev desk_with : List ℕ → ℕ → List Question → ActorState
+desk_with node store questions = record { part = Desk (record { node = node; store = store; seen = 0; last = 0; questions = questions }); clock = 0; told = 0; made = [] }
 
 abbrev asked_actors : List ActorState
-asked_actors =
-    no_actor ∷ store ∷ desk_with (codes "a") (answer (codes "a") (codes "x") ∷ []) ∷ store
-    ∷ desk_with (codes "b") (answer (codes "b") (codes "x") ∷ answer (codes "b") (codes "y") ∷ []) ∷ []
+asked_actors = no_actor ∷ desk_with (codes "a") 3 (question 0 0 ∷ []) ∷ desk_with (codes "b") 3 (question 3 0 ∷ question 1 3 ∷ []) ∷ store ∷ []
 
-pub given-order : (given (record { actors = asked_actors; answers = [] }) (4 ∷ 2 ∷ 4 ∷ [])).answers
-    ≡ answer (codes "b") (codes "x") ∷ answer (codes "a") (codes "x") ∷ answer (codes "b") (codes "y") ∷ []
-unfolding give
-given-order = refl
+abbrev answer : List ℕ → Told → AnswerDone
+answer node told = record { node = node; asked = Key (codes "x"); told = told }
+
+pub give-order : (giving_of asked_actors (2 ∷ 1 ∷ 2 ∷ [])).answers
+    ≡ answer (codes "b") (Value (value_of 2)) ∷ answer (codes "a") Nothing ∷ answer (codes "b") (Behind 1) ∷ []
+unfolding give answer_of answer_to told_to
+give-order = refl

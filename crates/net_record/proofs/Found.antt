@@ -1,87 +1,88 @@
--- What a desk found last is no longer than its store's journal, so that the greatest length in its range is in it.
-use Rattle.std.proofs.Common.{◌≡◌, ℕ, zero, suc, ◌+◌, ◌<◌, ◌≤◌, List, [], ◌∷◌, Option, Some, None, length, map, get_or, set, refl, sym, ap, subst, arith}
+-- What a desk found last is no longer than its store's journal, so that the greatest length in its range is in it. It holds of
+-- any list of actors, whatever the order of a node's modules is.
+use Rattle.std.proofs.Common.{◌≡◌, ℕ, zero, suc, ◌+◌, ◌<◌, ◌≤◌, inl, inr, List, [], ◌∷◌, Option, Some, None, length, map, get_or, set, refl, sym, ap, ◌∙◌, subst, arith, get_or-set_same, get_or-set_other}
 use Rattle.std.specs.Prelude.{slice_get}
-use Rattle.or_base.specs.declared.entry.JournalEntry.{JournalEntry}
+use Rattle.std.proofs.lemmas.Bool.{cases_lt, cases_eq}
+use Rattle.std.proofs.lemmas.List.{set_past}
 use Rattle.or_base.specs.declared.item.Item.{Item}
 use Rattle.or_base.specs.declared.item.Stamped.{Stamped}
-use Rattle.kv_store.proofs.Growth.{front_shorter, journals_grow}
-use Rattle.kv_store.specs.Store.{store_step}
 use Rattle.or_actor.specs.declared.output.Output.{Output}
-use Rattle.or_base.specs.declared.value.KvValue.{KvValue}
+use Rattle.or_actor.specs.Steps.{TurnMade}
 use Rattle.net_record.specs.declared.role.NodeModule.TheVariants.{Store as StoreRole, Desk as DeskRole}
 use Rattle.net_record.specs.declared.role.Role.{Role}
 use Rattle.net_record.specs.declared.role.Role.TheVariants.{Driver as DriverRole, Node, Link as LinkRole}
 use Rattle.net_record.specs.declared.part.Part.{Part}
-use Rattle.net_record.specs.declared.part.Part.TheVariants.{Driver, Store, Desk, Link}
+use Rattle.net_record.specs.declared.part.Part.TheVariants.{Driver, Desk, Module}
 use Rattle.net_record.specs.declared.actor.ActorState.{ActorState}
-use Rattle.net_record.specs.declared.lookup.Look.{Look}
-use Rattle.net_record.specs.Desk.{DeskState, question, desk_after}
-use Rattle.net_record.specs.Actors.{no_actor, new_part, new_actor, entries_of, store_before, asked_of, last_of, look, range_for, part_step, actor_after, settled_part, settled_actors}
-use Rattle.net_record.specs.Answers.{given}
-use Rattle.net_record.specs.World.{WorldState, waiting, turn, turn_of, turn_by, reader_of, range, range_by, issued, settled, greatest_clock}
+use Rattle.net_record.specs.Desk.{DeskState, key_asked, with_question, desk_after}
+use Rattle.net_record.specs.Actors.{no_actor, actor_at, new_part, new_actor, desk_of, entries_of, range_asked, range_for, part_step, actor_after, made_by, journal_lengths, part_after_settle, actor_after_settle, actors_after_settle}
+use Rattle.net_record.specs.Answers.{giving_of}
+use Rattle.net_record.specs.World.{WorldState, waiting, turn, turn_of, turn_by, reader_of, range, range_by, issue, settle, greatest_clock}
+use Rattle.net_record.proofs.KindsGrow.{part_longer}
 
--- No desk among these actors found more than the store before it has; so many entries has the actor before the first.
-abbrev pub DesksFind : ℕ → List ActorState → Type 0
-DesksFind before [] = Unit {0}
-DesksFind before (actor ∷ actors) = (last_of actor.part ≤ before) × DesksFind (length (entries_of actor.part)) actors
+-- how many entries the journal of an actor has
+abbrev pub entries_at : List ActorState → ℕ → ℕ
+entries_at actors number = length (entries_of (actor_at actors number).part)
 
--- the entries of the actor before one
-abbrev entries_before : ℕ → List ActorState → ℕ → ℕ
-entries_before before actors zero = before
-entries_before before actors (suc n) = length (entries_of (get_or actors n no_actor).part)
+-- a desk, if it is one, found no more than its store has
+abbrev pub FoundWithin : List ActorState → Option DeskState → Type 0
+FoundWithin actors None = Unit {0}
+FoundWithin actors (Some d) = d.last ≤ entries_at actors d.store
 
-before_next : (before : ℕ) (actor : ActorState) (actors : List ActorState) (n : ℕ)
-    → entries_before before (actor ∷ actors) (suc n) ≡ entries_before (length (entries_of actor.part)) actors n
-before_next before actor actors zero = refl
-before_next before actor actors (suc n) = refl
+-- no desk among these actors found more than its store has
+abbrev pub DesksFind : List ActorState → Type 0
+DesksFind actors = (number : ℕ) → FoundWithin actors (desk_of (actor_at actors number).part)
 
-before_is : (actors : List ActorState) (n : ℕ) → length (entries_of (store_before actors n).part) ≡ entries_before 0 actors n
-before_is actors zero = refl
-before_is actors (suc n) = refl
-
-found_at : (before : ℕ) (actors : List ActorState) (n : ℕ) → DesksFind before actors → last_of (get_or actors n no_actor).part ≤ entries_before before actors n
-found_at before [] zero h = omega arith
-found_at before [] (suc n) h = omega arith
-found_at before (actor ∷ actors) zero h = h.0
-found_at before (actor ∷ actors) (suc n) h =
-    omega (arith, found_at (length (entries_of actor.part)) actors n h.1, before_next before actor actors n)
-
-find_more : (m n : ℕ) (actors : List ActorState) → m ≤ n → DesksFind m actors → DesksFind n actors
-find_more m n [] more h = tt
-find_more m n (actor ∷ actors) more h = (omega (arith, more, h.0), h.1)
+-- journals that are no shorter
+within_longer : (actors after : List ActorState) (desk : Option DeskState) → ((number : ℕ) → entries_at actors number ≤ entries_at after number)
+    → FoundWithin actors desk → FoundWithin after desk
+within_longer actors after None longer h = tt
+within_longer actors after (Some d) longer h = omega (arith, h, longer d.store)
 
 -- another actor in the place of one
-find_set : (before : ℕ) (actors : List ActorState) (n : ℕ) (after : ActorState) → DesksFind before actors → n < length actors
-    → last_of after.part ≤ entries_before before actors n → length (entries_of (get_or actors n no_actor).part) ≤ length (entries_of after.part)
-    → DesksFind before (set actors n after)
-find_set before [] n after h within last grows = absurd (omega (arith, within))
-find_set before (actor ∷ actors) zero after h within last grows = (last, find_more (length (entries_of actor.part)) (length (entries_of after.part)) actors grows h.1)
-find_set before (actor ∷ actors) (suc n) after h within last grows = (
-  h.0,
-  find_set (length (entries_of actor.part)) actors n after h.1 (omega (arith, within)) (omega (arith, last, before_next before actor actors n)) grows,
-)
+set_longer : (actors : List ActorState) (n : ℕ) (after : ActorState) → entries_at actors n ≤ length (entries_of after.part)
+    → (number : ℕ) → entries_at actors number ≤ entries_at (set actors n after) number
+set_longer actors n after longer number =
+    elim (cases_eq number n) [
+      | inl is ↦
+          elim (cases_lt n (length actors)) [
+            | inl within ↦ omega (
+                arith,
+                longer,
+                ap (λ m. entries_at actors m) is,
+                ap (λ m. entries_at (set actors n after) m) is,
+                ap (λ (a : ActorState). length (entries_of a.part)) (get_or-set_same actors n after no_actor within),
+              )
+            | inr past ↦ omega (arith, ap (λ others. entries_at others number) (set_past actors n after past))
+          ]
+      | inr other ↦ omega (arith, ap (λ (a : ActorState). length (entries_of a.part)) (get_or-set_other actors n number after no_actor other))
+    ]
+
+find_set : (actors : List ActorState) (n : ℕ) (after : ActorState) → DesksFind actors → n < length actors → FoundWithin actors (desk_of after.part)
+    → entries_at actors n ≤ length (entries_of after.part) → DesksFind (set actors n after)
+find_set actors n after h within last longer number =
+    let more = within_longer actors (set actors n after) (desk_of (actor_at (set actors n after) number).part) (set_longer actors n after longer) in
+    elim (cases_eq number n) [
+      | inl is ↦
+          let here = ap (λ m. actor_at (set actors n after) m) is ∙ get_or-set_same actors n after no_actor within in
+          more (subst (λ (a : ActorState). FoundWithin actors (desk_of a.part)) (sym here) last)
+      | inr other ↦
+          more (subst (λ (a : ActorState). FoundWithin actors (desk_of a.part)) (sym (get_or-set_other actors n number after no_actor other)) (h number))
+    ]
 
 -- ---- one turn
 
-last_asked : (d : DeskState) (asked : Option (List ℕ)) (at : ℕ) (held : Option KvValue) (entries : List JournalEntry)
-    → d.last ≤ length entries → at ≤ (range_for (Desk d) entries asked).most → (desk_after d asked at held).last ≤ length entries
-last_asked d None at held entries last within = last
-last_asked d (Some key) at held entries last within = within
+found_asked : (actors : List ActorState) (d : DeskState) (asked : Option (List ℕ)) (at : ℕ) → FoundWithin actors (Some d) → at ≤ (range_asked actors (Some d) asked).most
+    → FoundWithin actors (Some (with_question d asked at))
+found_asked actors d None at last within = last
+found_asked actors d (Some key) at last within = within
 
-last_after : (part : Part) (item : Item) (at : ℕ) (held : Option KvValue) (entries : List JournalEntry)
-    → last_of part ≤ length entries → at ≤ (range_for part entries (asked_of part item)).most → last_of (part_step part item at held).0 ≤ length entries
-unfolding part_step
-last_after Driver item at held entries last within = omega arith
-last_after (Store s) item at held entries last within = omega arith
-last_after (Desk d) item at held entries last within = last_asked d (question item) at held entries last within
-last_after (Link s) item at held entries last within = omega arith
-
-entries_after : (part : Part) (item : Item) (at : ℕ) (held : Option KvValue) → length (entries_of part) ≤ length (entries_of (part_step part item at held).0)
-unfolding part_step
-entries_after Driver item at held = omega arith
-entries_after (Store s) item at held = front_shorter s.journal (store_step s item).0.journal (journals_grow s item)
-entries_after (Desk d) item at held = omega arith
-entries_after (Link s) item at held = omega arith
+found_after : (actors : List ActorState) (part : Part) (lane : ℕ) (item : Item) (at : ℕ) → FoundWithin actors (desk_of part) → at ≤ (range_for actors part item).most
+    → FoundWithin actors (desk_of (part_step part lane item at).0)
+unfolding part_step range_for desk_after
+found_after actors Driver lane item at last within = tt
+found_after actors (Desk d) lane item at last within = found_asked actors d (key_asked item) at last within
+found_after actors (Module m) lane item at last within = tt
 
 -- an actor that is there
 pub there : (actors : List ActorState) (n : ℕ) (actor : ActorState) → slice_get actors n ≡ Some actor → (n < length actors) × (get_or actors n no_actor ≡ actor)
@@ -90,54 +91,50 @@ there [] (suc n) actor e = cc e
 there (a ∷ actors) zero actor e = (omega arith, cc e)
 there (a ∷ actors) (suc n) actor e = let h = there actors n actor e in (omega (arith, h.0), h.1)
 
-find_actor : (actors : List ActorState) (reader at : ℕ) (s : Stamped) (actor : ActorState) (found : Look) → slice_get actors reader ≡ Some actor → DesksFind 0 actors
-    → at ≤ (range_for actor.part (entries_of (store_before actors reader).part) (asked_of actor.part s.item)).most
-    → DesksFind 0 (set actors reader (actor_after actor s at found))
+find_actor : (actors : List ActorState) (reader : ℕ) (actor : ActorState) (m : TurnMade) → slice_get actors reader ≡ Some actor → DesksFind actors
+    → m.at ≤ (range_for actors actor.part m.taken.item).most → DesksFind (set actors reader (actor_after actor m))
 unfolding actor_after
-find_actor actors reader at s actor found e h within =
+find_actor actors reader actor m e h within =
     let is = there actors reader actor e in
-    let entries = entries_of (store_before actors reader).part in
-    let same : last_of (get_or actors reader no_actor).part ≡ last_of actor.part = ap (λ (a : ActorState). last_of a.part) is.1 in
-    let last : last_of actor.part ≤ length entries = omega (arith, same, found_at 0 actors reader h, before_is actors reader) in
-    find_set 0 actors reader (actor_after actor s at found) h is.0
-    (omega (arith, last_after actor.part s.item at found.held entries last within, before_is actors reader))
-    (omega (arith, ap (λ (a : ActorState). length (entries_of a.part)) is.1, entries_after actor.part s.item at found.held))
+    let last = subst (λ (a : ActorState). FoundWithin actors (desk_of a.part)) is.1 (h reader) in
+    find_set actors reader (actor_after actor m) h is.0
+    (found_after actors actor.part m.lane m.taken.item m.at last within)
+    (omega (arith, ap (λ (a : ActorState). length (entries_of a.part)) is.1, part_longer actor.part m.lane m.taken.item m.at))
 
-find_of : (w : WorldState) (lane at reader : ℕ) (s : Stamped) (others : List Stamped) (actor : ActorState) (found : Look) → slice_get w.actors reader ≡ Some actor → DesksFind 0 w.actors
-    → at ≤ (range_for actor.part (entries_of (store_before w.actors reader).part) (asked_of actor.part s.item)).most
-    → DesksFind 0 (turn_of w lane at reader s others actor found).actors
+find_of : (w : WorldState) (reader : ℕ) (others : List Stamped) (actor : ActorState) (m : TurnMade) → slice_get w.actors reader ≡ Some actor → DesksFind w.actors
+    → m.at ≤ (range_for w.actors actor.part m.taken.item).most → DesksFind (turn_of w reader others actor m).actors
 unfolding turn_of
-find_of w lane at reader s others actor found e h within = find_actor w.actors reader at s actor found e h within
+find_of w reader others actor m e h within = find_actor w.actors reader actor m e h within
 
-find_by : (w : WorldState) (lane at reader : ℕ) (items : List Stamped) (actor : Option ActorState) → slice_get w.actors reader ≡ actor → DesksFind 0 w.actors
-    → at ≤ (range_by w.actors reader items actor).most → DesksFind 0 (turn_by w lane at reader items actor).actors
+find_by : (w : WorldState) (lane at reader : ℕ) (items : List Stamped) (actor : Option ActorState) → slice_get w.actors reader ≡ actor → DesksFind w.actors
+    → at ≤ (range_by w.actors items actor).most → DesksFind (turn_by w lane at reader items actor).actors
 find_by w lane at reader [] actor e h within = h
 find_by w lane at reader (s ∷ others) None e h within = h
-find_by w lane at reader (s ∷ others) (Some actor) e h within = find_of w lane at reader s others actor (look w.actors reader actor.part at s.item) e h within
+find_by w lane at reader (s ∷ others) (Some actor) e h within = find_of w reader others actor (made_by w.actors actor lane at s) e h within
 
 -- a turn that finds no more than it may
-pub find_turn : (w : WorldState) (lane at : ℕ) → DesksFind 0 w.actors → at ≤ (range w lane).most → DesksFind 0 (turn w lane at).actors
+pub find_turn : (w : WorldState) (lane at : ℕ) → DesksFind w.actors → at ≤ (range w lane).most → DesksFind (turn w lane at).actors
 unfolding turn range
 find_turn w lane at h within =
     let reader = reader_of (slice_get w.wires lane) in
     find_by w lane at reader (waiting w lane) (slice_get w.actors reader) refl h within
 
-range_fair : (part : Part) (entries : List JournalEntry) (asked : Option (List ℕ)) → last_of part ≤ length entries → (range_for part entries asked).least ≤ (range_for part entries asked).most
-range_fair part entries None last = omega arith
-range_fair part entries (Some key) last = last
+range_fair : (actors : List ActorState) (desk : Option DeskState) (asked : Option (List ℕ)) → FoundWithin actors desk → (range_asked actors desk asked).least ≤ (range_asked actors desk asked).most
+range_fair actors None asked last = omega arith
+range_fair actors (Some d) None last = omega arith
+range_fair actors (Some d) (Some key) last = last
 
-range_by_fair : (actors : List ActorState) (reader : ℕ) (items : List Stamped) (actor : Option ActorState) → slice_get actors reader ≡ actor → DesksFind 0 actors
-    → (range_by actors reader items actor).least ≤ (range_by actors reader items actor).most
+range_by_fair : (actors : List ActorState) (reader : ℕ) (items : List Stamped) (actor : Option ActorState) → slice_get actors reader ≡ actor → DesksFind actors
+    → (range_by actors items actor).least ≤ (range_by actors items actor).most
+unfolding range_for
 range_by_fair actors reader [] actor e h = omega arith
 range_by_fair actors reader (s ∷ others) None e h = omega arith
 range_by_fair actors reader (s ∷ others) (Some actor) e h =
     let is = there actors reader actor e in
-    let same : last_of (get_or actors reader no_actor).part ≡ last_of actor.part = ap (λ (a : ActorState). last_of a.part) is.1 in
-    range_fair actor.part (entries_of (store_before actors reader).part) (asked_of actor.part s.item)
-    (omega (arith, same, found_at 0 actors reader h, before_is actors reader))
+    range_fair actors (desk_of actor.part) (key_asked s.item) (subst (λ (a : ActorState). FoundWithin actors (desk_of a.part)) is.1 (h reader))
 
 -- the range of a turn isn't empty
-pub range_holds : (w : WorldState) (lane : ℕ) → DesksFind 0 w.actors → (range w lane).least ≤ (range w lane).most
+pub range_holds : (w : WorldState) (lane : ℕ) → DesksFind w.actors → (range w lane).least ≤ (range w lane).most
 unfolding range
 range_holds w lane h =
     let reader = reader_of (slice_get w.wires lane) in
@@ -145,41 +142,62 @@ range_holds w lane h =
 
 -- ---- the start, issues and settles
 
-new_last : (role : Role) → last_of (new_part role) ≡ 0
-new_last DriverRole = refl
-new_last (Node StoreRole node) = refl
-new_last (Node DeskRole node) = refl
-new_last (LinkRole link a b) = refl
+new_within : (actors : List ActorState) (role : Role) → FoundWithin actors (desk_of (new_part role))
+new_within actors DriverRole = tt
+new_within actors (Node StoreRole node store) = tt
+new_within actors (Node DeskRole node store) = omega arith
+new_within actors (LinkRole link a b) = tt
 
-pub find_start : (before : ℕ) (all : List Role) → DesksFind before (map new_actor all)
-find_start before [] = tt
-find_start before (role ∷ all) = (omega (arith, new_last role), find_start (length (entries_of (new_part role))) all)
+starts_within : (actors : List ActorState) (all : List Role) (number : ℕ) → FoundWithin actors (desk_of (actor_at (map new_actor all) number).part)
+starts_within actors [] zero = tt
+starts_within actors [] (suc number) = tt
+starts_within actors (role ∷ all) zero = new_within actors role
+starts_within actors (role ∷ all) (suc number) = starts_within actors all number
 
-pub find_issued : (w : WorldState) (issues : List Output) → DesksFind 0 w.actors → DesksFind 0 (issued w issues).actors
-unfolding issued
-find_issued w issues h = h
+pub find_start : (all : List Role) → DesksFind (map new_actor all)
+find_start all = starts_within (map new_actor all) all
 
-last_settled : (found : ℕ) (part : Part) → last_of (settled_part found part) ≤ found
-last_settled found Driver = omega arith
-last_settled found (Store s) = omega arith
-last_settled found (Desk d) = omega arith
-last_settled found (Link s) = omega arith
+pub find_issue : (w : WorldState) (issues : List Output) → DesksFind w.actors → DesksFind (issue w issues).actors
+unfolding issue
+find_issue w issues h = h
 
-pub entries_settled : (found : ℕ) (part : Part) → entries_of (settled_part found part) ≡ entries_of part
-entries_settled found Driver = refl
-entries_settled found (Store s) = refl
-entries_settled found (Desk d) = refl
-entries_settled found (Link s) = refl
+pub entries_settled : (lengths : List ℕ) (part : Part) → entries_of (part_after_settle lengths part) ≡ entries_of part
+entries_settled lengths Driver = refl
+entries_settled lengths (Desk d) = refl
+entries_settled lengths (Module m) = refl
 
-find_settled_actors : (clock before : ℕ) (actors : List ActorState) → DesksFind before (settled_actors clock before actors)
-find_settled_actors clock before [] = tt
-find_settled_actors clock before (actor ∷ actors) = (
-  last_settled before actor.part,
-  subst (λ n. DesksFind n (settled_actors clock (length (entries_of actor.part)) actors)) (sym (ap length (entries_settled before actor.part)))
-      (find_settled_actors clock (length (entries_of actor.part)) actors),
-)
+-- the length of a journal, among all of them
+length_at : (actors : List ActorState) (number : ℕ) → get_or (journal_lengths actors) number 0 ≡ entries_at actors number
+length_at [] zero = refl
+length_at [] (suc number) = refl
+length_at (actor ∷ actors) zero = refl
+length_at (actor ∷ actors) (suc number) = length_at actors number
 
-pub find_settled : (moment : ℕ) (asked : List ℕ) (w : WorldState) → DesksFind 0 (settled moment asked w).actors
-unfolding settled
-find_settled moment asked w =
-    find_settled_actors (greatest_clock w.actors + 1) 0 (given (record { actors = w.actors; answers = [] }) asked).actors
+-- journals are as long after a settle
+settled_long : (clock : ℕ) (lengths : List ℕ) (actors : List ActorState) (number : ℕ) → entries_at (map (actor_after_settle clock lengths) actors) number ≡ entries_at actors number
+settled_long clock lengths [] zero = refl
+settled_long clock lengths [] (suc number) = refl
+settled_long clock lengths (actor ∷ actors) zero = ap length (entries_settled lengths actor.part)
+settled_long clock lengths (actor ∷ actors) (suc number) = settled_long clock lengths actors number
+
+part_within : (after : List ActorState) (lengths : List ℕ) (part : Part) → ((number : ℕ) → get_or lengths number 0 ≤ entries_at after number)
+    → FoundWithin after (desk_of (part_after_settle lengths part))
+part_within after lengths Driver most = tt
+part_within after lengths (Desk d) most = most d.store
+part_within after lengths (Module m) most = tt
+
+each_within : (after : List ActorState) (clock : ℕ) (lengths : List ℕ) (actors : List ActorState) → ((number : ℕ) → get_or lengths number 0 ≤ entries_at after number)
+    → (number : ℕ) → FoundWithin after (desk_of (actor_at (map (actor_after_settle clock lengths) actors) number).part)
+each_within after clock lengths [] most zero = tt
+each_within after clock lengths [] most (suc number) = tt
+each_within after clock lengths (actor ∷ actors) most zero = part_within after lengths actor.part most
+each_within after clock lengths (actor ∷ actors) most (suc number) = each_within after clock lengths actors most number
+
+find_settled : (clock : ℕ) (actors : List ActorState) → DesksFind (actors_after_settle clock actors)
+find_settled clock actors =
+    each_within (actors_after_settle clock actors) clock (journal_lengths actors) actors
+    (λ number. omega (arith, length_at actors number, settled_long clock (journal_lengths actors) actors number))
+
+pub find_settle : (moment : ℕ) (asked : List ℕ) (w : WorldState) → DesksFind (settle moment asked w).actors
+unfolding settle
+find_settle moment asked w = find_settled (greatest_clock w.actors + 1) (giving_of w.actors asked).actors

@@ -3,29 +3,31 @@ use Rattle.std.proofs.Common.{◌≡◌, ℕ, zero, suc, ◌+◌, ◌<◌, List,
 use Rattle.std.specs.Prelude.{slice_get}
 use Rattle.std.proofs.lemmas.List.{append-nil}
 use Rattle.or_base.specs.declared.entry.JournalEntry.{JournalEntry}
-use Rattle.or_base.specs.declared.value.KvValue.{KvValue}
-use Rattle.or_base.specs.declared.item.Item.{Item}
+use Rattle.std.specs.Prelude.{option_map, option_to_list}
+use Rattle.std.specs.Option.{option_map_or}
 use Rattle.or_base.specs.declared.item.Stamped.{Stamped}
 use Rattle.or_actor.specs.declared.output.Output.{Output}
+use Rattle.or_actor.specs.Steps.{TurnMade}
 use Rattle.kv_store.specs.Growth.{IsFront}
-use Rattle.kv_store.proofs.Growth.{front_same, front_then, journals_grow}
+use Rattle.kv_store.specs.Store.{StoreState}
+use Rattle.kv_store.proofs.Growth.{front_same, front_then}
 use Rattle.net_record.specs.declared.part.Part.{Part}
-use Rattle.net_record.specs.declared.part.Part.TheVariants.{Driver, Store, Desk, Link}
+use Rattle.net_record.specs.declared.part.Part.TheVariants.{Driver, Desk, Module}
 use Rattle.net_record.specs.declared.actor.ActorState.{ActorState}
-use Rattle.net_record.specs.declared.lookup.Look.{Look}
 use Rattle.net_record.specs.declared.phase.Phase.{Phase}
 use Rattle.net_record.specs.declared.record.SettleDone.{SettleDone}
 use Rattle.net_record.specs.Phases.{phases}
-use Rattle.net_record.specs.Actors.{no_actor, entries_of, look, part_step, actor_after, settled_part, settled_actors}
-use Rattle.net_record.specs.Answers.{Giving, part_without, actor_without, desks_asked, give, given}
-use Rattle.net_record.specs.World.{WorldState, start, waiting, turn, turn_of, turn_by, reader_of, is_drained, issued, settled, settle_done, greatest_clock, mark_of, marks_of}
+use Rattle.net_record.specs.Actors.{no_actor, actor_at, store_of, part_step, made_by, actor_after, journal_lengths, part_after_settle, actor_after_settle, actors_after_settle, part_without_question, actor_without_question}
+use Rattle.net_record.specs.Answers.{Giving, desks_asked, give, give_all, giving_of}
+use Rattle.net_record.specs.World.{WorldState, start, waiting, turn, turn_of, turn_by, reader_of, is_drained, issue, settle, settle_done, greatest_clock, mark_of_store, marks_of}
 use Rattle.net_record.specs.Budget.{is_over}
 use Rattle.net_record.specs.Records.{journal_of, journals_of}
-use Rattle.net_record.specs.Rounds.{Marked, longest, turns_on, round_from, round, after_round, rounds_of, phase_of, settle_of, rounds_from, round_robin}
+use Rattle.net_record.specs.Rounds.{Marked, longest, turns_on, round_from, round, after_round, rounds_of, phase_of, settle_after, rounds_from, round_robin}
 use Rattle.net_record.specs.Fronts.{settling_worlds, fronts, TellStores, SettlesTellStores}
+use Rattle.net_record.proofs.KindsGrow.{Grows, part_grows}
 use Rattle.net_record.proofs.Found.{there}
 use Rattle.net_record.proofs.RoundRuns.{goes_on}
-use Rattle.net_record.proofs.Drained.{settles-rounds_of, settles-issued}
+use Rattle.net_record.proofs.Drained.{settles-rounds_of, settles-issue}
 
 -- ---- lists of journals
 
@@ -68,12 +70,11 @@ grow_then w v u = fronts_then (journals_of w.actors) (journals_of v.actors) (jou
 grow_same : (w : WorldState) → Grow w w
 grow_same w = fronts_same (journals_of w.actors)
 
-part_grows : (part : Part) (item : Item) (at : ℕ) (held : Option KvValue) → AllFronts (journal_of part) (journal_of (part_step part item at held).0)
-unfolding part_step
-part_grows Driver item at held = tt
-part_grows (Store s) item at held = (journals_grow s item, tt)
-part_grows (Desk d) item at held = tt
-part_grows (Link s) item at held = tt
+all_grow : (s t : Option StoreState) → Grows s t → AllFronts (option_to_list (option_map (λ s. s.journal) s)) (option_to_list (option_map (λ s. s.journal) t))
+all_grow None None g = tt
+all_grow None (Some t) g = absurd g
+all_grow (Some s) None g = absurd g
+all_grow (Some s) (Some t) g = (g, tt)
 
 -- another actor in the place of one
 grow_set : (actors : List ActorState) (n : ℕ) (after : ActorState) → n < length actors
@@ -85,23 +86,24 @@ grow_set (actor ∷ actors) (suc n) after within f =
     fronts_join (journal_of actor.part) (journal_of actor.part) (journals_of actors) (journals_of (set actors n after))
     (fronts_same (journal_of actor.part)) (grow_set actors n after (omega (arith, within)) f)
 
-grow_actor : (actors : List ActorState) (reader at : ℕ) (s : Stamped) (actor : ActorState) (found : Look) → slice_get actors reader ≡ Some actor
-    → AllFronts (journals_of actors) (journals_of (set actors reader (actor_after actor s at found)))
+grow_actor : (actors : List ActorState) (reader : ℕ) (actor : ActorState) (m : TurnMade) → slice_get actors reader ≡ Some actor
+    → AllFronts (journals_of actors) (journals_of (set actors reader (actor_after actor m)))
 unfolding actor_after
-grow_actor actors reader at s actor found e =
+grow_actor actors reader actor m e =
     let is = there actors reader actor e in
-    grow_set actors reader (actor_after actor s at found) is.0
-    (subst (λ (a : ActorState). AllFronts (journal_of a.part) (journal_of (part_step actor.part s.item at found.held).0)) (sym is.1) (part_grows actor.part s.item at found.held))
+    let grows = all_grow (store_of actor.part) (store_of (part_step actor.part m.lane m.taken.item m.at).0) (part_grows actor.part m.lane m.taken.item m.at) in
+    grow_set actors reader (actor_after actor m) is.0
+    (subst (λ (a : ActorState). AllFronts (journal_of a.part) (journal_of (part_step actor.part m.lane m.taken.item m.at).0)) (sym is.1) grows)
 
-grow_of : (w : WorldState) (lane at reader : ℕ) (s : Stamped) (others : List Stamped) (actor : ActorState) (found : Look) → slice_get w.actors reader ≡ Some actor
-    → Grow w (turn_of w lane at reader s others actor found)
+grow_of : (w : WorldState) (reader : ℕ) (others : List Stamped) (actor : ActorState) (m : TurnMade) → slice_get w.actors reader ≡ Some actor
+    → Grow w (turn_of w reader others actor m)
 unfolding turn_of
-grow_of w lane at reader s others actor found e = grow_actor w.actors reader at s actor found e
+grow_of w reader others actor m e = grow_actor w.actors reader actor m e
 
 grow_by : (w : WorldState) (lane at reader : ℕ) (items : List Stamped) (actor : Option ActorState) → slice_get w.actors reader ≡ actor → Grow w (turn_by w lane at reader items actor)
 grow_by w lane at reader [] actor e = grow_same w
 grow_by w lane at reader (s ∷ others) None e = grow_same w
-grow_by w lane at reader (s ∷ others) (Some actor) e = grow_of w lane at reader s others actor (look w.actors reader actor.part at s.item) e
+grow_by w lane at reader (s ∷ others) (Some actor) e = grow_of w reader others actor (made_by w.actors actor lane at s) e
 
 pub grow_turn : (w : WorldState) (lane at : ℕ) → Grow w (turn w lane at)
 unfolding turn
@@ -142,71 +144,68 @@ grow_rounds_of m (suc count) =
     grow_rounds_if (is_drained m.world || is_over m.world) m n
     (grow_then m.world (round m.world) n.world (grow_round m.world) (grow_rounds_of (after_round m) count))
 
-grow_issued : (w : WorldState) (issues : List Output) → Grow w (issued w issues)
-unfolding issued
-grow_issued w issues = grow_same w
+grow_issue : (w : WorldState) (issues : List Output) → Grow w (issue w issues)
+unfolding issue
+grow_issue w issues = grow_same w
 
 grow_phase : (m : Marked) (phase : Phase) → Grow m.world (phase_of m phase).world
 grow_phase m phase =
-    let begun : Marked = record { world = issued m.world phase.issues; marks = m.marks } in
-    grow_then m.world begun.world (phase_of m phase).world (grow_issued m.world phase.issues) (grow_rounds_of begun phase.rounds)
+    let begun : Marked = record { world = issue m.world phase.issues; marks = m.marks } in
+    grow_then m.world begun.world (phase_of m phase).world (grow_issue m.world phase.issues) (grow_rounds_of begun phase.rounds)
 
 -- ---- settles
 
-journal_settled : (found : ℕ) (part : Part) → journal_of (settled_part found part) ≡ journal_of part
-journal_settled found Driver = refl
-journal_settled found (Store s) = refl
-journal_settled found (Desk d) = refl
-journal_settled found (Link s) = refl
+store_settled : (lengths : List ℕ) (part : Part) → store_of (part_after_settle lengths part) ≡ store_of part
+store_settled lengths Driver = refl
+store_settled lengths (Desk d) = refl
+store_settled lengths (Module m) = refl
 
-journals_settled : (clock found : ℕ) (actors : List ActorState) → journals_of (settled_actors clock found actors) ≡ journals_of actors
-journals_settled clock found [] = refl
-journals_settled clock found (actor ∷ actors) =
-    let others = journals_settled clock (length (entries_of actor.part)) actors in
-    ap (λ js. js ++ journals_of (settled_actors clock (length (entries_of actor.part)) actors)) (journal_settled found actor.part)
-    ∙ ap (λ js. journal_of actor.part ++ js) others
+journals_settled : (clock : ℕ) (lengths : List ℕ) (actors : List ActorState) → journals_of (map (actor_after_settle clock lengths) actors) ≡ journals_of actors
+journals_settled clock lengths [] = refl
+journals_settled clock lengths (actor ∷ actors) =
+    ap (λ s. option_to_list (option_map (λ (s : StoreState). s.journal) s) ++ journals_of (map (actor_after_settle clock lengths) actors)) (store_settled lengths actor.part)
+    ∙ ap (λ js. journal_of actor.part ++ js) (journals_settled clock lengths actors)
 
-journal_without : (part : Part) → journal_of (part_without part) ≡ journal_of part
-journal_without Driver = refl
-journal_without (Store s) = refl
-journal_without (Desk d) = refl
-journal_without (Link s) = refl
+store_without : (part : Part) → store_of (part_without_question part) ≡ store_of part
+store_without Driver = refl
+store_without (Desk d) = refl
+store_without (Module m) = refl
 
-journals_without : (actors : List ActorState) (n : ℕ) → journals_of (set actors n (actor_without (get_or actors n no_actor))) ≡ journals_of actors
+journals_without : (actors : List ActorState) (n : ℕ) → journals_of (set actors n (actor_without_question (actor_at actors n))) ≡ journals_of actors
 journals_without [] n = refl
-journals_without (actor ∷ actors) zero = ap (λ js. js ++ journals_of actors) (journal_without actor.part)
+journals_without (actor ∷ actors) zero = ap (λ s. option_to_list (option_map (λ (s : StoreState). s.journal) s) ++ journals_of actors) (store_without actor.part)
 journals_without (actor ∷ actors) (suc n) = ap (λ js. journal_of actor.part ++ js) (journals_without actors n)
 
 journals_give : (g : Giving) (number : ℕ) → journals_of (give g number).actors ≡ journals_of g.actors
 unfolding give
 journals_give g number = journals_without g.actors number
 
-journals_given : (g : Giving) (numbers : List ℕ) → journals_of (given g numbers).actors ≡ journals_of g.actors
-journals_given g [] = refl
-journals_given g (number ∷ numbers) = journals_given (give g number) numbers ∙ journals_give g number
+journals_give_all : (g : Giving) (numbers : List ℕ) → journals_of (give_all g numbers).actors ≡ journals_of g.actors
+journals_give_all g [] = refl
+journals_give_all g (number ∷ numbers) = journals_give_all (give g number) numbers ∙ journals_give g number
 
-grow_settled : (moment : ℕ) (asked : List ℕ) (w : WorldState) → Grow w (settled moment asked w)
-unfolding settled
-grow_settled moment asked w =
-    let start : Giving = record { actors = w.actors; answers = [] } in
-    let g = given start asked in
-    fronts_equal (journals_of w.actors) (journals_of (settled_actors (greatest_clock w.actors + 1) 0 g.actors))
-    (journals_settled (greatest_clock w.actors + 1) 0 g.actors ∙ journals_given start asked)
+grow_settle : (moment : ℕ) (asked : List ℕ) (w : WorldState) → Grow w (settle moment asked w)
+unfolding settle
+grow_settle moment asked w =
+    let g = giving_of w.actors asked in
+    let clock = greatest_clock w.actors + 1 in
+    fronts_equal (journals_of w.actors) (journals_of (actors_after_settle clock g.actors))
+    (journals_settled clock (journal_lengths g.actors) g.actors ∙ journals_give_all (record { actors = w.actors; answers = [] }) asked)
 
 grow_goes_on : (unsettled over : Bool) (number : ℕ) (phase : Phase) (done : Marked) (phases : List Phase)
-    → Grow (settle_of phase done).world (rounds_from (number + 1) (settle_of phase done) phases).last.world
-    → Grow done.world (goes_on unsettled over number done (settle_of phase done) phases).last.world
+    → Grow (settle_after phase done).world (rounds_from (number + 1) (settle_after phase done) phases).last.world
+    → Grow done.world (goes_on unsettled over number done (settle_after phase done) phases).last.world
 grow_goes_on true over number phase done phases others = grow_same done.world
-grow_goes_on false true number phase done phases others = grow_settled phase.moment (desks_asked phase.issues) done.world
+grow_goes_on false true number phase done phases others = grow_settle phase.moment (desks_asked phase.issues) done.world
 grow_goes_on false false number phase done phases others =
-    let next = settle_of phase done in
-    grow_then done.world next.world (rounds_from (number + 1) next phases).last.world (grow_settled phase.moment (desks_asked phase.issues) done.world) others
+    let next = settle_after phase done in
+    grow_then done.world next.world (rounds_from (number + 1) next phases).last.world (grow_settle phase.moment (desks_asked phase.issues) done.world) others
 
 grow_rounds_from : (number : ℕ) (m : Marked) (phases : List Phase) → Grow m.world (rounds_from number m phases).last.world
 grow_rounds_from number m [] = grow_same m.world
 grow_rounds_from number m (phase ∷ phases) =
     let done = phase_of m phase in
-    let next = settle_of phase done in
+    let next = settle_after phase done in
     grow_then m.world done.world (rounds_from number m (phase ∷ phases)).last.world (grow_phase m phase)
     (grow_goes_on (is_over done.world || not (is_drained done.world)) (is_over next.world) number phase done phases (grow_rounds_from (number + 1) next phases))
 
@@ -215,13 +214,12 @@ grow_rounds_from number m (phase ∷ phases) =
 abbrev Tell : List ActorState → Type 0
 Tell actors = (journals : List (List JournalEntry)) → AllFronts (journals_of actors) journals → journals_of actors ≡ fronts (marks_of actors) journals
 
-tell_actor : (part : Part) (told : ℕ) (actors : List ActorState) → Tell actors → (journals : List (List JournalEntry)) → AllFronts (journal_of part ++ journals_of actors) journals
-    → journal_of part ++ journals_of actors ≡ fronts (mark_of part told ++ marks_of actors) journals
-tell_actor Driver told actors others journals f = others journals f
-tell_actor (Desk d) told actors others journals f = others journals f
-tell_actor (Link s) told actors others journals f = others journals f
-tell_actor (Store s) told actors others [] f = absurd f
-tell_actor (Store s) told actors others (whole ∷ journals) f =
+tell_actor : (store : Option StoreState) (told : ℕ) (actors : List ActorState) → Tell actors → (journals : List (List JournalEntry))
+    → AllFronts (option_to_list (option_map (λ s. s.journal) store) ++ journals_of actors) journals
+    → option_to_list (option_map (λ s. s.journal) store) ++ journals_of actors ≡ fronts (option_map_or (mark_of_store told) store [] ++ marks_of actors) journals
+tell_actor None told actors others journals f = others journals f
+tell_actor (Some s) told actors others [] f = absurd f
+tell_actor (Some s) told actors others (whole ∷ journals) f =
     let front = f.0 in
     let first : take (length s.journal) whole ≡ s.journal = ap (take (length s.journal)) front.is ∙ take_at s.journal front.more (length s.journal) refl in
     rw (first, ← others journals f.1) refl
@@ -229,7 +227,7 @@ tell_actor (Store s) told actors others (whole ∷ journals) f =
 tell : (actors : List ActorState) → Tell actors
 tell [] [] f = refl
 tell [] (whole ∷ journals) f = absurd f
-tell (actor ∷ actors) journals f = tell_actor actor.part actor.told actors (tell actors) journals f
+tell (actor ∷ actors) journals f = tell_actor (store_of actor.part) actor.told actors (tell actors) journals f
 
 -- the settles of phases, behind those before them, and what they tell
 record Told (before : List SettleDone) (after : List SettleDone) (worlds : List WorldState) (journals : List (List JournalEntry)) : Type 0 where
@@ -242,34 +240,34 @@ TellPhases phases =
     (number : ℕ) (m : Marked) (journals : List (List JournalEntry)) → AllFronts (journals_of (rounds_from number m phases).last.world.actors) journals
     → Told m.world.settles (rounds_from number m phases).last.world.settles (settling_worlds m phases) journals
 
-settle_more : (moment : ℕ) (asked : List ℕ) (w : WorldState) → (s : SettleDone) × ((settled moment asked w).settles ≡ w.settles ++ s ∷ []) × (s.nodes ≡ marks_of w.actors)
-unfolding settled
+settle_more : (moment : ℕ) (asked : List ℕ) (w : WorldState) → (s : SettleDone) × ((settle moment asked w).settles ≡ w.settles ++ s ∷ []) × (s.nodes ≡ marks_of w.actors)
+unfolding settle
 settle_more moment asked w =
-    let s = settle_done moment w (given (record { actors = w.actors; answers = [] }) asked).answers in
+    let s = settle_done moment (length w.turns) w.actors (giving_of w.actors asked).answers in
     (s, refl, refl)
 
 tell_goes_on : (unsettled over : Bool) (number : ℕ) (before : List SettleDone) (phase : Phase) (done : Marked) (phases : List Phase) (journals : List (List JournalEntry)) → done.world.settles ≡ before
-    → TellPhases phases → AllFronts (journals_of (goes_on unsettled over number done (settle_of phase done) phases).last.world.actors) journals
-    → Told before (goes_on unsettled over number done (settle_of phase done) phases).last.world.settles
-    (cond unsettled [] (done.world ∷ cond over [] (settling_worlds (settle_of phase done) phases))) journals
+    → TellPhases phases → AllFronts (journals_of (goes_on unsettled over number done (settle_after phase done) phases).last.world.actors) journals
+    → Told before (goes_on unsettled over number done (settle_after phase done) phases).last.world.settles
+    (cond unsettled [] (done.world ∷ cond over [] (settling_worlds (settle_after phase done) phases))) journals
 tell_goes_on true over number before phase done phases journals same others f =
     record { settles = []; is = same ∙ sym (append-nil before); tell = tt }
 tell_goes_on false true number before phase done phases journals same others f =
-    let next = settle_of phase done in
+    let next = settle_after phase done in
     let more = settle_more phase.moment (desks_asked phase.issues) done.world in
-    let here = fronts_then (journals_of done.world.actors) (journals_of next.world.actors) journals (grow_settled phase.moment (desks_asked phase.issues) done.world) f in
+    let here = fronts_then (journals_of done.world.actors) (journals_of next.world.actors) journals (grow_settle phase.moment (desks_asked phase.issues) done.world) f in
     record {
       settles = more.0 ∷ [];
       is = more.1 ∙ ap (λ ss. ss ++ more.0 ∷ []) same;
       tell = (rw more.2 (tell done.world.actors journals here), tt);
     }
 tell_goes_on false false number before phase done phases journals same others f =
-    let next = settle_of phase done in
+    let next = settle_after phase done in
     let last = (rounds_from (number + 1) next phases).last.world in
     let more = settle_more phase.moment (desks_asked phase.issues) done.world in
     let rest = others (number + 1) next journals f in
     let later = fronts_then (journals_of next.world.actors) (journals_of last.actors) journals (grow_rounds_from (number + 1) next phases) f in
-    let here = fronts_then (journals_of done.world.actors) (journals_of next.world.actors) journals (grow_settled phase.moment (desks_asked phase.issues) done.world) later in
+    let here = fronts_then (journals_of done.world.actors) (journals_of next.world.actors) journals (grow_settle phase.moment (desks_asked phase.issues) done.world) later in
     record {
       settles = more.0 ∷ rest.settles;
       is =
@@ -282,9 +280,9 @@ tell_phases : (phases : List Phase) → TellPhases phases
 tell_phases [] number m journals f = record { settles = []; is = sym (append-nil m.world.settles); tell = tt }
 tell_phases (phase ∷ phases) number m journals f =
     let done = phase_of m phase in
-    let next = settle_of phase done in
+    let next = settle_after phase done in
     tell_goes_on (is_over done.world || not (is_drained done.world)) (is_over next.world) number m.world.settles phase done phases journals
-    (settles-rounds_of (record { world = issued m.world phase.issues; marks = m.marks }) phase.rounds ∙ settles-issued m.world phase.issues)
+    (settles-rounds_of (record { world = issue m.world phase.issues; marks = m.marks }) phase.rounds ∙ settles-issue m.world phase.issues)
     (tell_phases phases) f
 
 pub settles_tell_stores : SettlesTellStores

@@ -1,8 +1,11 @@
 pub mod Wired
 pub mod Delivered
 pub mod Weighing
-pub mod Issues
-pub mod Desks
+pub mod Enumerated
+pub mod Ported
+pub mod Parts
+pub mod Asking
+pub mod KindsGrow
 pub mod Turns
 pub mod Found
 pub mod RoundTurns

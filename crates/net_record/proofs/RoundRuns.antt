@@ -2,7 +2,7 @@
 use Rattle.std.proofs.Common.{◌≡◌, ℕ, zero, suc, ◌+◌, List, [], ◌∷◌, ◌++◌, Bool, true, false, cond, ◌||◌, not, Some, None, Ok, length, map, get_or, ◌<◌, refl, sym, ◌∙◌, ap, subst, length-set}
 use Rattle.std.proofs.lemmas.List.{append-nil, length-map, length-replicate}
 use Rattle.or_actor.specs.declared.output.Output.{Output}
-use Rattle.net_scenario.specs.declared.schedule.Turn.{Turn}
+use Rattle.net_laboratory.specs.declared.schedule.Turn.{Turn}
 use Rattle.net_record.specs.declared.role.Role.{Role}
 use Rattle.net_record.specs.declared.wire.Wire.{Wire}
 use Rattle.net_record.specs.declared.phase.Phase.{Phase}
@@ -10,65 +10,63 @@ use Rattle.net_record.specs.Roles.{roles}
 use Rattle.net_record.specs.Wires.{wires}
 use Rattle.net_record.specs.Phases.{phases}
 use Rattle.net_record.specs.declared.actor.ActorState.{ActorState}
-use Rattle.net_record.specs.Actors.{no_actor, new_actor, entries_of, settled_actors}
-use Rattle.net_record.specs.Answers.{Giving, actor_without, desks_asked, give, given}
-use Rattle.net_record.specs.World.{WorldState, world_of, start, is_drained, issued, settled, driver_clock, greatest_clock}
+use Rattle.net_record.specs.Actors.{actor_at, new_actor, actor_without_question, journal_lengths, actor_after_settle, actors_after_settle}
+use Rattle.net_record.specs.Answers.{Giving, desks_asked, give, give_all, giving_of}
+use Rattle.net_record.specs.World.{WorldState, world_of, start, is_drained, issue, settle, driver_clock, greatest_clock}
 use Rattle.net_record.specs.Budget.{is_over}
-use Rattle.net_record.specs.Rounds.{Marked, Ended, round, after_round, rounds_of, phase_of, settle_of, rounds_from, round_robin}
-use Rattle.net_record.specs.Run.{begun, advance, run_from, run, schedule_of, RoundsAreARun}
-use Rattle.net_record.specs.Wired.{IsReadBelow, IsWired}
-use Rattle.net_record.proofs.Wired.{readers_of_wires}
-use Rattle.net_record.proofs.Delivered.{length-delivered}
-use Rattle.net_record.proofs.Found.{find_start, find_issued, find_settled}
+use Rattle.net_record.specs.Rounds.{Marked, Ended, round, after_round, rounds_of, phase_of, settle_after, rounds_from, round_robin}
+use Rattle.net_record.specs.Run.{begin, advance, run_from, run, schedule_of, RoundsAreARun}
+use Rattle.net_record.specs.Wired.{IsWired}
+use Rattle.net_record.proofs.Wired.{ends_of_wires}
+use Rattle.net_record.proofs.Delivered.{length-deliver}
+use Rattle.net_record.proofs.Turns.{ends_as_many}
+use Rattle.net_record.proofs.Found.{find_start, find_issue, find_settle}
 use Rattle.net_record.proofs.RoundTurns.{IsReady, then_round, advance-waits, round_runs, round_schedules, ready_round}
-
-readers_among_as_many : (n m : ℕ) (ws : List Wire) → n ≡ m → ((k : ℕ) (d : Wire) → k < length ws → IsReadBelow n (get_or ws k d)) → (k : ℕ) (d : Wire) → k < length ws → IsReadBelow m (get_or ws k d)
-readers_among_as_many n m ws e h k d within = subst (λ j. IsReadBelow j (get_or ws k d)) e (h k d within)
 
 pub wired_world_of : (all : List Role) → IsWired (world_of all)
 wired_world_of all = record {
   as_many = length-replicate (length (wires all)) [];
-  readers = readers_among_as_many (length all) (length (map new_actor all)) (wires all) (sym (length-map all new_actor)) (readers_of_wires all);
+  ends = ends_as_many (length all) (length (map new_actor all)) (wires all) (sym (length-map all new_actor)) (ends_of_wires all);
 }
 
-pub wired_issued : (w : WorldState) (issues : List Output) → IsWired w → IsWired (issued w issues)
-unfolding issued
-wired_issued w issues wired = record {
-  as_many = length-delivered w.wires 0 (driver_clock w.actors) w.lanes issues ∙ wired.as_many;
-  readers = wired.readers;
+pub wired_issue : (w : WorldState) (issues : List Output) → IsWired w → IsWired (issue w issues)
+unfolding issue
+wired_issue w issues wired = record {
+  as_many = length-deliver w.wires 0 (driver_clock w.actors) w.lanes issues ∙ wired.as_many;
+  ends = wired.ends;
 }
 
 length-give : (g : Giving) (number : ℕ) → length (give g number).actors ≡ length g.actors
 unfolding give
-length-give g number = length-set g.actors number (actor_without (get_or g.actors number no_actor))
+length-give g number = length-set g.actors number (actor_without_question (actor_at g.actors number))
 
-length-given : (g : Giving) (numbers : List ℕ) → length (given g numbers).actors ≡ length g.actors
-length-given g [] = refl
-length-given g (number ∷ numbers) = length-given (give g number) numbers ∙ length-give g number
+pub length-give_all : (g : Giving) (numbers : List ℕ) → length (give_all g numbers).actors ≡ length g.actors
+length-give_all g [] = refl
+length-give_all g (number ∷ numbers) = length-give_all (give g number) numbers ∙ length-give g number
 
-length-settled : (clock found : ℕ) (actors : List ActorState) → length (settled_actors clock found actors) ≡ length actors
-length-settled clock found [] = refl
-length-settled clock found (actor ∷ actors) = ap suc (length-settled clock (length (entries_of actor.part)) actors)
+-- as many actors after a settle
+pub length-settled : (clock : ℕ) (asked : List ℕ) (actors : List ActorState) → length (actors_after_settle clock (giving_of actors asked).actors) ≡ length actors
+length-settled clock asked actors =
+    let g = giving_of actors asked in
+    length-map g.actors (actor_after_settle clock (journal_lengths g.actors)) ∙ length-give_all (record { actors = actors; answers = [] }) asked
 
-pub wired_settled : (moment : ℕ) (asked : List ℕ) (w : WorldState) → IsWired w → IsWired (settled moment asked w)
-unfolding settled
-wired_settled moment asked w wired =
-    let g = given (record { actors = w.actors; answers = [] }) asked in
+pub wired_settle : (moment : ℕ) (asked : List ℕ) (w : WorldState) → IsWired w → IsWired (settle moment asked w)
+unfolding settle
+wired_settle moment asked w wired =
     let clock = greatest_clock w.actors + 1 in
-    let same = length-settled clock 0 g.actors ∙ length-given (record { actors = w.actors; answers = [] }) asked in
     record {
       as_many = wired.as_many;
-      readers = readers_among_as_many (length w.actors) (length (settled_actors clock 0 g.actors)) w.wires (sym same) wired.readers;
+      ends = ends_as_many (length w.actors) (length (actors_after_settle clock (giving_of w.actors asked).actors)) w.wires (sym (length-settled clock asked w.actors)) wired.ends;
     }
 
 ready_world_of : (all : List Role) → IsReady (world_of all)
-ready_world_of all = record { wired = wired_world_of all; find = find_start 0 all }
+ready_world_of all = record { wired = wired_world_of all; find = find_start all }
 
-ready_issued : (w : WorldState) (issues : List Output) → IsReady w → IsReady (issued w issues)
-ready_issued w issues ready = record { wired = wired_issued w issues ready.wired; find = find_issued w issues ready.find }
+ready_issue : (w : WorldState) (issues : List Output) → IsReady w → IsReady (issue w issues)
+ready_issue w issues ready = record { wired = wired_issue w issues ready.wired; find = find_issue w issues ready.find }
 
-ready_settled : (moment : ℕ) (asked : List ℕ) (w : WorldState) → IsReady w → IsReady (settled moment asked w)
-ready_settled moment asked w ready = record { wired = wired_settled moment asked w ready.wired; find = find_settled moment asked w }
+ready_settle : (moment : ℕ) (asked : List ℕ) (w : WorldState) → IsReady w → IsReady (settle moment asked w)
+ready_settle moment asked w ready = record { wired = wired_settle moment asked w ready.wired; find = find_settle moment asked w }
 
 -- no round is wanted any more
 abbrev stops : WorldState → Bool
@@ -125,19 +123,19 @@ rounds_scheduled m (suc count) later ready =
     one_round_scheduled m count later (stops m.world) ready (rounds_scheduled (after_round m) count later (ready_round m.world ready))
 
 -- what a phase begins with, and what the next one does
-abbrev with_issues : Marked → Phase → Marked
-with_issues m phase = record { world = issued m.world phase.issues; marks = m.marks }
+abbrev marked_with_issues : Marked → Phase → Marked
+marked_with_issues m phase = record { world = issue m.world phase.issues; marks = m.marks }
 
 abbrev next_phase : Marked → Phase → Marked
-next_phase m phase = settle_of phase (phase_of m phase)
+next_phase m phase = settle_after phase (phase_of m phase)
 
 -- the turns of phases
 abbrev turns_of_phases : Marked → List Phase → List Turn
 turns_of_phases m [] = []
-turns_of_phases m (phase ∷ phases) = then_rounds phase.rounds (issued m.world phase.issues) (turns_of_phases (next_phase m phase) phases)
+turns_of_phases m (phase ∷ phases) = then_rounds phase.rounds (issue m.world phase.issues) (turns_of_phases (next_phase m phase) phases)
 
 ready_phase : (m : Marked) (phase : Phase) → IsReady m.world → IsReady (phase_of m phase).world
-ready_phase m phase ready = ready_rounds_of (with_issues m phase) phase.rounds (ready_issued m.world phase.issues ready)
+ready_phase m phase ready = ready_rounds_of (marked_with_issues m phase) phase.rounds (ready_issue m.world phase.issues ready)
 
 -- how rounds go on after those of a phase, where it isn't over before its settle or by it
 abbrev pub goes_on : Bool → Bool → ℕ → Marked → Marked → List Phase → Ended
@@ -154,13 +152,13 @@ drained-or false false e = cc
 abbrev RunsPhases : List Phase → Type 0
 RunsPhases phases =
     (number : ℕ) (m : Marked) → IsReady m.world → (rounds_from number m phases).unsettled ≡ None
-    → run_from (advance (begun m.world phases) phases) (turns_of_phases m phases) ≡ Ok (rounds_from number m phases).last.world
+    → run_from (advance (begin m.world phases) phases) (turns_of_phases m phases) ≡ Ok (rounds_from number m phases).last.world
 
 settled_phase : (number : ℕ) (phase : Phase) (phases : List Phase) (later : List Turn) (done : Marked) (unsettled over : Bool) → is_over done.world || not (is_drained done.world) ≡ unsettled
-    → (goes_on unsettled over number done (settle_of phase done) phases).unsettled ≡ None
-    → ((rounds_from (number + 1) (settle_of phase done) phases).unsettled ≡ None
-    → run_from (advance (begun (settle_of phase done).world phases) phases) later ≡ Ok (rounds_from (number + 1) (settle_of phase done) phases).last.world)
-    → run_from (advance done.world (phase ∷ phases)) later ≡ Ok (goes_on unsettled over number done (settle_of phase done) phases).last.world
+    → (goes_on unsettled over number done (settle_after phase done) phases).unsettled ≡ None
+    → ((rounds_from (number + 1) (settle_after phase done) phases).unsettled ≡ None
+    → run_from (advance (begin (settle_after phase done).world phases) phases) later ≡ Ok (rounds_from (number + 1) (settle_after phase done) phases).last.world)
+    → run_from (advance done.world (phase ∷ phases)) later ≡ Ok (goes_on unsettled over number done (settle_after phase done) phases).last.world
 settled_phase number phase phases later done false false e settles others =
     rw (drained-or (is_over done.world) (is_drained done.world) e) (others settles)
 settled_phase number phase phases later done false true e settles others = cc settles
@@ -171,17 +169,17 @@ runs_phases [] number m ready settles = refl
 runs_phases (phase ∷ phases) number m ready settles =
     let done = phase_of m phase in
     let next = next_phase m phase in
-    rounds_run (with_issues m phase) phase.rounds phase phases (turns_of_phases next phases) (ready_issued m.world phase.issues ready)
+    rounds_run (marked_with_issues m phase) phase.rounds phase phases (turns_of_phases next phases) (ready_issue m.world phase.issues ready)
     ∙ settled_phase number phase phases (turns_of_phases next phases) done (is_over done.world || not (is_drained done.world)) (is_over next.world) refl settles
-    (λ others. runs_phases phases (number + 1) next (ready_settled phase.moment (desks_asked phase.issues) done.world (ready_phase m phase ready)) others)
+    (λ others. runs_phases phases (number + 1) next (ready_settle phase.moment (desks_asked phase.issues) done.world (ready_phase m phase ready)) others)
 
-turns-issued : (w : WorldState) (issues : List Output) → (issued w issues).turns ≡ w.turns
-unfolding issued
-turns-issued w issues = refl
+turns-issue : (w : WorldState) (issues : List Output) → (issue w issues).turns ≡ w.turns
+unfolding issue
+turns-issue w issues = refl
 
-turns-settled : (moment : ℕ) (asked : List ℕ) (w : WorldState) → (settled moment asked w).turns ≡ w.turns
-unfolding settled
-turns-settled moment asked w = refl
+turns-settle : (moment : ℕ) (asked : List ℕ) (w : WorldState) → (settle moment asked w).turns ≡ w.turns
+unfolding settle
+turns-settle moment asked w = refl
 
 abbrev SchedulesPhases : List Phase → Type 0
 SchedulesPhases phases =
@@ -189,12 +187,12 @@ SchedulesPhases phases =
     → schedule_of (rounds_from number m phases).last.world.turns ≡ schedule_of m.world.turns ++ turns_of_phases m phases
 
 scheduled_phase : (number : ℕ) (phase : Phase) (phases : List Phase) (later : List Turn) (done : Marked) (unsettled over : Bool)
-    → (goes_on unsettled over number done (settle_of phase done) phases).unsettled ≡ None
-    → ((rounds_from (number + 1) (settle_of phase done) phases).unsettled ≡ None
-    → schedule_of (rounds_from (number + 1) (settle_of phase done) phases).last.world.turns ≡ schedule_of (settle_of phase done).world.turns ++ later)
-    → schedule_of (goes_on unsettled over number done (settle_of phase done) phases).last.world.turns ≡ schedule_of done.world.turns ++ later
+    → (goes_on unsettled over number done (settle_after phase done) phases).unsettled ≡ None
+    → ((rounds_from (number + 1) (settle_after phase done) phases).unsettled ≡ None
+    → schedule_of (rounds_from (number + 1) (settle_after phase done) phases).last.world.turns ≡ schedule_of (settle_after phase done).world.turns ++ later)
+    → schedule_of (goes_on unsettled over number done (settle_after phase done) phases).last.world.turns ≡ schedule_of done.world.turns ++ later
 scheduled_phase number phase phases later done false false settles others =
-    others settles ∙ ap (λ ts. schedule_of ts ++ later) (turns-settled phase.moment (desks_asked phase.issues) done.world)
+    others settles ∙ ap (λ ts. schedule_of ts ++ later) (turns-settle phase.moment (desks_asked phase.issues) done.world)
 scheduled_phase number phase phases later done false true settles others = cc settles
 scheduled_phase number phase phases later done true over settles others = cc settles
 
@@ -205,13 +203,13 @@ schedules_phases (phase ∷ phases) number m ready settles =
     let next = next_phase m phase in
     let later = turns_of_phases next phases in
     scheduled_phase number phase phases later done (is_over done.world || not (is_drained done.world)) (is_over next.world) settles
-    (λ others. schedules_phases phases (number + 1) next (ready_settled phase.moment (desks_asked phase.issues) done.world (ready_phase m phase ready)) others)
-    ∙ rounds_scheduled (with_issues m phase) phase.rounds later (ready_issued m.world phase.issues ready)
-    ∙ ap (λ ts. schedule_of ts ++ then_rounds phase.rounds (issued m.world phase.issues) later) (turns-issued m.world phase.issues)
+    (λ others. schedules_phases phases (number + 1) next (ready_settle phase.moment (desks_asked phase.issues) done.world (ready_phase m phase ready)) others)
+    ∙ rounds_scheduled (marked_with_issues m phase) phase.rounds later (ready_issue m.world phase.issues ready)
+    ∙ ap (λ ts. schedule_of ts ++ then_rounds phase.rounds (issue m.world phase.issues) later) (turns-issue m.world phase.issues)
 
 pub rounds_are_a_run : RoundsAreARun
 unfolding round_robin run
 rounds_are_a_run lab settles =
     let m : Marked = record { world = start lab; marks = [] } in
-    ap (run_from (advance (begun (start lab) (phases lab)) (phases lab))) (schedules_phases (phases lab) 1 m (ready_world_of (roles lab)) settles)
+    ap (run_from (advance (begin (start lab) (phases lab)) (phases lab))) (schedules_phases (phases lab) 1 m (ready_world_of (roles lab)) settles)
     ∙ runs_phases (phases lab) 1 m (ready_world_of (roles lab)) settles

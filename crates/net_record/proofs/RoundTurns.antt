@@ -1,10 +1,10 @@
 -- Rounds are turns of a run, one after another: within a round an item always waits, so no phase ends there. Where the budget
--- is passed, nothing more is done.
+-- is exceeded, nothing more is done.
 use Rattle.std.proofs.Common.{◌≡◌, ℕ, zero, suc, ◌+◌, ◌<◌, ◌≤◌, List, [], ◌∷◌, ◌++◌, Bool, true, false, cond, length, map, get_or, drop, refl, sym, ◌∙◌, ap, arith, append_assoc, add-one}
 use Rattle.std.specs.List.{list_all}
 use Rattle.std.proofs.lemmas.Bool.{false≢true, le-leb}
 use Rattle.or_base.specs.declared.item.Stamped.{Stamped}
-use Rattle.net_scenario.specs.declared.schedule.Turn.{Turn}
+use Rattle.net_laboratory.specs.declared.schedule.Turn.{Turn}
 use Rattle.net_record.specs.declared.phase.Phase.{Phase}
 use Rattle.net_record.specs.World.{WorldState, waiting, turn, range, is_empty, is_drained}
 use Rattle.net_record.specs.Budget.{is_over}
@@ -24,7 +24,7 @@ robin w lane = turn w lane (longest w lane)
 -- lanes and readers are there, and no desk found more than its store has
 pub record IsReady (w : WorldState) : Type 0 where
   pub wired : IsWired w
-  pub find : DesksFind 0 w.actors
+  pub find : DesksFind w.actors
 
 ready_turn : (w : WorldState) (lane : ℕ) → IsReady w → IsReady (robin w lane)
 ready_turn w lane ready = record {
@@ -87,7 +87,7 @@ then_round-none w lane [] later none = refl
 then_round-none w lane (zero ∷ counts) later none = then_round-none w (lane + 1) counts later none
 then_round-none w lane (suc count ∷ counts) later none = cc
 
--- the budget is passed
+-- the budget is exceeded
 turns_on-over : (w : WorldState) (lane count : ℕ) → is_over w ≡ true → turns_on w lane count ≡ w
 turns_on-over w lane zero over = refl
 turns_on-over w lane (suc count) over = rw over refl
@@ -164,7 +164,7 @@ after_one v lane count counts phase phases later false none backed goes_on =
     ap (run_from (advance v (phase ∷ phases))) (then_round-none v lane (count ∷ counts) later none)
     ∙ ap (λ u. run_from (advance u (phase ∷ phases)) later) (sym (round_from-none v lane (count ∷ counts) none))
 
--- the budget is passed, and an item waits
+-- the budget is exceeded, and an item waits
 runs-over : (w : WorldState) (lane : ℕ) (counts : List ℕ) (phase : Phase) (phases : List Phase) (later : List Turn) → is_drained w ≡ false → is_over w ≡ true
     → RunsRoundOf w lane counts phase phases later
 runs-over w lane counts phase phases later waits over =
@@ -172,7 +172,7 @@ runs-over w lane counts phase phases later waits over =
     ∙ ap (λ p. run_from p later) (sym (advance-waits w phase phases waits))
     ∙ ap (λ v. run_from (advance v (phase ∷ phases)) later) (sym (round_from-over w lane counts over))
 
--- one turn of a lane, or none where the budget is passed
+-- one turn of a lane, or none where the budget is exceeded
 one_turn : (w : WorldState) (lane count : ℕ) (counts : List ℕ) (phase : Phase) (phases : List Phase) (later : List Turn) (over : Bool) → is_over w ≡ over → IsReady w → Backed w lane (suc count ∷ counts)
     → (IsReady (robin w lane) → Backed (robin w lane) lane (count ∷ counts) → some_left (count ∷ counts) ≡ true → RunsRoundOf (robin w lane) lane (count ∷ counts) phase phases later)
     → RunsRoundOf w lane (suc count ∷ counts) phase phases later

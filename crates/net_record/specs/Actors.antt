@@ -1,28 +1,37 @@
--- The actors: their modules, and one turn of each.
-use Rattle.std.specs.Prelude.{ℕ, zero, suc, ◌+◌, ◌-◌, max, List, [], ◌∷◌, ◌++◌, length, take, replicate, Option, Some, None, slice_index_or}
-use Rattle.or_base.specs.declared.value.KvValue.{KvValue}
+-- The actors: what each is, one turn of each, and what a settle makes of it.
+use Rattle.std.specs.Prelude.{ℕ, zero, suc, ◌-◌, List, [], ◌∷◌, ◌++◌, length, map, replicate, Option, Some, None, option_map, option_and_then, Bool, ◌&&◌, nat_le, slice_index_or, slice_get}
+use Rattle.std.specs.Option.{option_map_or}
 use Rattle.or_base.specs.declared.entry.JournalEntry.{JournalEntry}
 use Rattle.or_base.specs.declared.item.Item.{Item}
 use Rattle.or_base.specs.declared.item.Stamped.{Stamped}
-use Rattle.or_base.specs.Journal.{held_value}
 use Rattle.or_actor.specs.declared.output.Output.{Output}
-use Rattle.kv_store.specs.Store.{new_store, store_step}
-use Rattle.net_link.specs.Link.{new_link, link_step}
+use Rattle.or_actor.specs.Steps.{TurnMade, turn_made, finds_nothing}
+use Rattle.kv_store.specs.Store.{StoreState, new_store}
+use Rattle.net_link.specs.Link.{new_link}
+use Rattle.net_record.specs.declared.role.NodeModule.{NodeModule}
 use Rattle.net_record.specs.declared.role.NodeModule.TheVariants.{Store as StoreRole, Desk as DeskRole}
 use Rattle.net_record.specs.declared.role.Role.{Role}
 use Rattle.net_record.specs.declared.role.Role.TheVariants.{Driver as DriverRole, Node, Link as LinkRole}
+use Rattle.net_record.specs.declared.kinds.AnyModule.TheVariants.{Store, Link}
 use Rattle.net_record.specs.declared.part.Part.{Part}
-use Rattle.net_record.specs.declared.part.Part.TheVariants.{Driver, Store, Desk, Link}
+use Rattle.net_record.specs.declared.part.Part.TheVariants.{Driver, Desk, Module}
 use Rattle.net_record.specs.declared.actor.ActorState.{ActorState}
-use Rattle.net_record.specs.declared.lookup.Look.{Look}
-use Rattle.net_record.specs.Desk.{new_desk, question, desk_after, settled_desk}
+use Rattle.net_record.specs.declared.record.AnswerDone.{AnswerDone}
+use Rattle.net_record.specs.Kinds.{module_step, module_may_find, store_in}
+use Rattle.net_record.specs.Desk.{DeskState, new_desk, key_asked, desk_after, desk_may_find, desk_shown, desk_finds, answer_to, without_question, desk_after_settle}
 
--- the module of an actor as it starts
+-- ---- what an actor is
+
+-- a module of the node with this name, whose store is the actor with this number, as it starts
+abbrev pub node_part : NodeModule → List ℕ → ℕ → Part
+node_part StoreRole node store = Module (Store (new_store node))
+node_part DeskRole node store = Desk (new_desk node store)
+
+-- what an actor is as it starts
 abbrev pub new_part : Role → Part
 new_part DriverRole = Driver
-new_part (Node StoreRole node) = Store (new_store node)
-new_part (Node DeskRole node) = Desk (new_desk node)
-new_part (LinkRole link a b) = Link (new_link link a b)
+new_part (Node module_ node store) = node_part module_ node store
+new_part (LinkRole link a b) = Module (Link (new_link link a b))
 
 abbrev pub new_actor : Role → ActorState
 new_actor role = record { part = new_part role; clock = 0; told = 0; made = [] }
@@ -31,111 +40,143 @@ new_actor role = record { part = new_part role; clock = 0; told = 0; made = [] }
 abbrev pub no_actor : ActorState
 no_actor = record { part = Driver; clock = 0; told = 0; made = [] }
 
--- the entries of a store's journal; the other modules have none
+-- the actor with this number
+abbrev pub actor_at : List ActorState → ℕ → ActorState
+actor_at actors number = slice_index_or actors number no_actor
+
+-- ---- what others ask of it
+
+abbrev pub desk_of : Part → Option DeskState
+desk_of (Desk d) = Some d
+desk_of _ = None
+
+abbrev pub store_of : Part → Option StoreState
+store_of (Module m) = store_in m
+store_of _ = None
+
+-- the entries of a store's journal; whatever is no store has none
 abbrev pub entries_of : Part → List JournalEntry
-entries_of Driver = []
-entries_of (Store s) = s.journal
-entries_of (Desk d) = []
-entries_of (Link s) = []
+entries_of part = option_map_or (λ s. s.journal) (store_of part) []
+
+-- how many full syncs that it started were finished, where it is a store
+abbrev pub finished_by : Part → ℕ
+finished_by part = option_map_or (λ s. length s.done) (store_of part) 0
+
+-- the length that a desk found last
+abbrev pub last_of : Part → ℕ
+last_of part = option_map_or (λ d. d.last) (desk_of part) 0
 
 -- ---- what a desk finds
-
--- the store of a desk's node is the actor before the desk
-abbrev pub store_before : List ActorState → ℕ → ActorState
-store_before actors zero = no_actor
-store_before actors (suc number) = slice_index_or actors number no_actor
-
--- the key that a module is asked for by an item; only desks are asked
-abbrev pub asked_of : Part → Item → Option (List ℕ)
-asked_of Driver item = None
-asked_of (Store s) item = None
-asked_of (Desk d) item = question item
-asked_of (Link s) item = None
-
--- the stamp of the turn that made a journal so long, by the stamps of its entries; 0 where it is empty
-abbrev pub made_at : List ℕ → ℕ → ℕ
-made_at stamps zero = 0
-made_at stamps (suc n) = slice_index_or stamps n 0
-
--- what is found in a store for a question, if there is one, with so many entries
-abbrev pub look_in : ActorState → ℕ → Option (List ℕ) → Look
-look_in store at None = record { made = 0; held = None }
-look_in store at (Some key) = record { made = made_at store.made at; held = held_value (take at (entries_of store.part)) key }
-
--- what an actor, which has this number and module, finds for an item
-unfoldable pub look : List ActorState → ℕ → Part → ℕ → Item → Look
-look actors number part at item = look_in (store_before actors number) at (asked_of part item)
 
 -- the lengths that a turn may find
 pub record Range : Type 0 where
   pub least : ℕ
   pub most : ℕ
 
--- the length that a desk found last
-abbrev pub last_of : Part → ℕ
-last_of Driver = 0
-last_of (Store s) = 0
-last_of (Desk d) = d.last
-last_of (Link s) = 0
+abbrev pub is_in_range : Range → ℕ → Bool
+is_in_range r at = nat_le r.least at && nat_le at r.most
 
--- for a question from the length that was found last to that of the store's journal; a turn that answers none finds 0
-abbrev pub range_for : Part → List JournalEntry → Option (List ℕ) → Range
-range_for part entries None = record { least = 0; most = 0 }
-range_for part entries (Some key) = record { least = last_of part; most = length entries }
+-- what every turn finds that is no desk's answer
+abbrev pub no_range : Range
+no_range = record { least = 0; most = 0 }
+
+-- of a desk, if it is one, that is asked for a key, if it is: from the length that was found last to that of the store's journal
+abbrev pub range_asked : List ActorState → Option DeskState → Option (List ℕ) → Range
+range_asked actors None asked = no_range
+range_asked actors (Some d) None = no_range
+range_asked actors (Some d) (Some key) = record { least = d.last; most = length (entries_of (actor_at actors d.store).part) }
+
+-- the lengths that a turn with an item may find
+unfoldable pub range_for : List ActorState → Part → Item → Range
+range_for actors part item = range_asked actors (desk_of part) (key_asked item)
+
+-- the stamp of the turn that made a journal so long, by the stamps of its entries; 0 where it is empty
+abbrev pub made_at : List ℕ → ℕ → ℕ
+made_at stamps zero = 0
+made_at stamps (suc n) = slice_index_or stamps n 0
+
+abbrev pub made_asked : List ActorState → Option DeskState → Option (List ℕ) → ℕ → ℕ
+made_asked actors None asked at = 0
+made_asked actors (Some d) None at = 0
+made_asked actors (Some d) (Some key) at = made_at (actor_at actors d.store).made at
+
+-- the stamp of the turn that made the length that a turn with an item finds; 0 where it finds none
+unfoldable pub made_for : List ActorState → Part → Item → ℕ → ℕ
+made_for actors part item at = made_asked actors (desk_of part) (key_asked item) at
 
 -- ---- one turn
 
--- One turn of an actor's module, in which it found so many entries that hold this: its state after it, and what it sends. The
--- driver does nothing, and a desk sends nothing.
-unfoldable pub part_step : Part → Item → ℕ → Option KvValue → Part × List Output
-part_step Driver item at held = (Driver, [])
-part_step (Store s) item at held = let after = store_step s item in (Store after.0, after.1)
-part_step (Desk d) item at held = (Desk (desk_after d (question item) at held), [])
-part_step (Link s) item at held = let after = link_step s item in (Link after.0, after.1)
+-- One turn: what an actor is after it, and what it sends. The driver does nothing, and a desk sends nothing.
+unfoldable pub part_step : Part → ℕ → Item → ℕ → Part × List Output
+part_step Driver lane item at = (Driver, [])
+part_step (Desk d) lane item at = (Desk (desk_after d item at), [])
+part_step (Module m) lane item at = let after = module_step m lane item in (Module after.0, after.1)
 
--- the stamp of an actor's turn: one more than the greatest of the item's stamp, the actor's clock and, where a desk found a
--- length, the stamp of the turn that made it
-abbrev pub next_stamp : ActorState → Stamped → Look → ℕ
-next_stamp actor s found = max (max s.stamp actor.clock) found.made + 1
+abbrev pub part_may_find : Part → Item → ℕ → Bool
+part_may_find Driver item at = finds_nothing at
+part_may_find (Desk d) item at = desk_may_find d item at
+part_may_find (Module m) item at = module_may_find m item at
+
+-- an actor to which a journal of this length is shown, before its turn with an item; only a desk that is asked looks at it
+abbrev pub part_shown : Part → Item → ℕ → Part
+part_shown Driver item at = Driver
+part_shown (Desk d) item at = Desk (desk_shown d item at)
+part_shown (Module m) item at = Module m
+
+-- what its next turn finds, by what was shown to it
+abbrev pub part_finds : Part → Item → ℕ
+part_finds part item = option_map_or (λ d. desk_finds d item) (desk_of part) 0
 
 -- the stamps of a journal's entries after a turn with this stamp
 abbrev pub stamps_after : List ℕ → List JournalEntry → List JournalEntry → ℕ → List ℕ
 stamps_after stamps before after stamp = stamps ++ replicate (length after - length before) stamp
 
--- an actor after its turn with an item
-unfoldable pub actor_after : ActorState → Stamped → ℕ → Look → ActorState
-actor_after actor s at found =
-    let after = (part_step actor.part s.item at found.held).0 in
-    let stamp = next_stamp actor s found in
-    record { part = after; clock = stamp; told = actor.told; made = stamps_after actor.made (entries_of actor.part) (entries_of after) stamp }
+-- the turn of one of these actors that takes an item of a lane and finds a journal of this length
+abbrev pub made_by : List ActorState → ActorState → ℕ → ℕ → Stamped → TurnMade
+made_by actors actor lane at taken = turn_made actor.clock lane at taken (made_for actors actor.part taken.item at)
 
--- what an actor sends in its turn with an item
-unfoldable pub outputs_of : ActorState → Item → ℕ → Look → List Output
-outputs_of actor item at found = (part_step actor.part item at found.held).1
+-- an actor after its turn
+unfoldable pub actor_after : ActorState → TurnMade → ActorState
+actor_after actor m =
+    let after = (part_step actor.part m.lane m.taken.item m.at).0 in
+    record { part = after; clock = m.stamp; told = actor.told; made = stamps_after actor.made (entries_of actor.part) (entries_of after) m.stamp }
+
+-- what an actor sends in its turn
+unfoldable pub outputs_of : ActorState → TurnMade → List Output
+outputs_of actor m = (part_step actor.part m.lane m.taken.item m.at).1
 
 -- ---- a settle
 
--- how many full syncs that it started were finished, where it is a store
-abbrev pub finished_by : Part → ℕ
-finished_by Driver = 0
-finished_by (Store s) = length s.done
-finished_by (Desk d) = 0
-finished_by (Link s) = 0
+-- the lengths of the actors' journals, by their numbers
+abbrev pub journal_lengths : List ActorState → List ℕ
+journal_lengths actors = map (λ actor. length (entries_of actor.part)) actors
 
--- a module after a settle, which lets a desk see so many entries
-abbrev pub settled_part : ℕ → Part → Part
-settled_part found Driver = Driver
-settled_part found (Store s) = Store s
-settled_part found (Desk d) = Desk (settled_desk found d)
-settled_part found (Link s) = Link s
+-- what an actor is after a settle, at which the journals have these lengths: a desk has seen that of its store
+abbrev pub part_after_settle : List ℕ → Part → Part
+part_after_settle lengths Driver = Driver
+part_after_settle lengths (Desk d) = Desk (desk_after_settle (slice_index_or lengths d.store 0) d)
+part_after_settle lengths (Module m) = Module m
 
--- an actor after a settle, which sets its clock, tells of all full syncs that it finished, and lets it see so many entries
-abbrev pub settled_actor : ℕ → ℕ → ActorState → ActorState
-settled_actor clock found actor =
-    record { part = settled_part found actor.part; clock = clock; told = finished_by actor.part; made = actor.made }
+-- an actor after a settle, which sets its clock and tells of all full syncs that it finished
+abbrev pub actor_after_settle : ℕ → List ℕ → ActorState → ActorState
+actor_after_settle clock lengths actor =
+    record { part = part_after_settle lengths actor.part; clock = clock; told = finished_by actor.part; made = actor.made }
 
--- actors after a settle: a desk sees all entries of the store before it; so many has that before the first
-abbrev pub settled_actors : ℕ → ℕ → List ActorState → List ActorState
-settled_actors clock found [] = []
-settled_actors clock found (actor ∷ actors) =
-    settled_actor clock found actor ∷ settled_actors clock (length (entries_of actor.part)) actors
+abbrev pub actors_after_settle : ℕ → List ActorState → List ActorState
+actors_after_settle clock actors = map (actor_after_settle clock (journal_lengths actors)) actors
+
+-- the answer to the oldest question of a desk, which the settle reads from its store; whatever is no desk has none
+abbrev pub answer_of_desk : List ActorState → DeskState → Option AnswerDone
+answer_of_desk actors d = option_map (answer_to d (entries_of (actor_at actors d.store).part)) (slice_get d.questions 0)
+
+unfoldable pub answer_of : List ActorState → Part → Option AnswerDone
+answer_of actors part = option_and_then (answer_of_desk actors) (desk_of part)
+
+-- an actor without its oldest question
+abbrev pub part_without_question : Part → Part
+part_without_question Driver = Driver
+part_without_question (Desk d) = Desk (without_question d)
+part_without_question (Module m) = Module m
+
+abbrev pub actor_without_question : ActorState → ActorState
+actor_without_question actor = record actor { part = part_without_question actor.part }

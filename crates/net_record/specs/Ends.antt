@@ -1,5 +1,5 @@
 use Rattle.std.specs.Prelude.{◌≡◌, length, true, None}
-use Rattle.net_scenario.specs.Scenario.{Laboratory}
+use Rattle.net_laboratory.specs.Scenario.{Laboratory}
 use Rattle.net_record.specs.Phases.{phases}
 use Rattle.net_record.specs.World.{is_drained}
 use Rattle.net_record.specs.Rounds.{round_robin}

@@ -1,7 +1,7 @@
 -- What a record tells of a store at a settle is what the store was then.
 use Rattle.std.specs.Prelude.{◌≡◌, List, [], ◌∷◌, take, ◌||◌, not, if◌then◌else◌}
 use Rattle.or_base.specs.declared.entry.JournalEntry.{JournalEntry}
-use Rattle.net_scenario.specs.Scenario.{Laboratory}
+use Rattle.net_laboratory.specs.Scenario.{Laboratory}
 use Rattle.net_record.specs.declared.phase.Phase.{Phase}
 use Rattle.net_record.specs.declared.record.NodeMark.{NodeMark}
 use Rattle.net_record.specs.declared.record.SettleDone.{SettleDone}
@@ -9,14 +9,14 @@ use Rattle.net_record.specs.Phases.{phases}
 use Rattle.net_record.specs.World.{WorldState, start, is_drained}
 use Rattle.net_record.specs.Budget.{is_over}
 use Rattle.net_record.specs.Records.{journals_of}
-use Rattle.net_record.specs.Rounds.{Marked, phase_of, settle_of, round_robin}
+use Rattle.net_record.specs.Rounds.{Marked, phase_of, settle_after, round_robin}
 
 -- the worlds in which the settles of phases are done, in order
 abbrev pub settling_worlds : Marked → List Phase → List WorldState
 settling_worlds m [] = []
 settling_worlds m (phase ∷ phases) =
     let done = phase_of m phase in
-    let next = settle_of phase done in
+    let next = settle_after phase done in
     if is_over done.world || not (is_drained done.world) then []
     else done.world ∷ (if is_over next.world then [] else settling_worlds next phases)
 

@@ -1,5 +1,6 @@
 pub mod Roles
 pub mod Wires
+pub mod Kinds
 pub mod Desk
 pub mod Actors
 pub mod Answers
@@ -14,3 +15,4 @@ pub mod Small
 pub mod Wired
 pub mod Ends
 pub mod Fronts
+pub mod Ports

@@ -1,48 +1,72 @@
-use Rattle.std.specs.Prelude.{ℕ, ◌+◌, List, [], ◌∷◌, ◌++◌, Bool, true, false, if◌then◌else◌}
+-- What the driver sends: one row a command, and the phases of a scenario.
+use Rattle.std.specs.Prelude.{ℕ, List, [], ◌∷◌, ◌++◌, map, Bool, true, false, if◌then◌else◌}
+use Rattle.std.specs.List.{flat_map, enumerate_from}
+use Rattle.or_base.specs.declared.item.Item.{Item}
 use Rattle.or_base.specs.declared.item.Item.TheVariants as item
 use Rattle.or_actor.specs.declared.output.Output.{Output}
 use Rattle.or_actor.specs.declared.output.Output.TheVariants.{To}
-use Rattle.net_scenario.specs.declared.declared.LinkDecl.{LinkDecl}
-use Rattle.net_scenario.specs.declared.command.Command.{Command}
-use Rattle.net_scenario.specs.declared.command.Command.TheVariants.{Settle, Tick, Set, Sync, Restart, Up, Down, Script, Get}
-use Rattle.net_scenario.specs.Scenario.{Laboratory}
+use Rattle.net_laboratory.specs.declared.declared.LinkDecl.{LinkDecl}
+use Rattle.net_laboratory.specs.declared.command.Command.{Command}
+use Rattle.net_laboratory.specs.declared.command.Command.TheVariants.{Settle, Tick, Set, Own, Disown, Sync, Restart, Up, Down, Script, Get, Drain, LinkDrain, Metric, Advertise, Withdraw, Aggregate, Ask}
+use Rattle.net_laboratory.specs.Scenario.{Laboratory}
+use Rattle.net_record.specs.declared.role.NodeModule.{NodeModule}
 use Rattle.net_record.specs.declared.role.NodeModule.TheVariants.{Store, Desk}
 use Rattle.net_record.specs.declared.role.Role.{Role}
 use Rattle.net_record.specs.declared.role.Role.TheVariants.{Driver, Node, Link}
 use Rattle.net_record.specs.declared.phase.Phase.{Phase}
-use Rattle.net_record.specs.Roles.{roles, number_of, is_store_of, is_desk_of, is_link}
+use Rattle.net_record.specs.Roles.{roles, module_number, link_number}
 
--- an Up for each link, of which the first has the number given
-abbrev pub ups : List Role → ℕ → List LinkDecl → List Output
-ups all number [] = []
-ups all number (link ∷ links) = To (number_of (is_link number) 0 all) item.Up ∷ ups all (number + 1) links
+-- an Up for each link
+abbrev pub ups : List Role → List LinkDecl → List Output
+ups all links = map (λ link. To (link_number all link.0) item.Up) (enumerate_from 0 links)
 
--- stores and links take ticks
+-- the modules of a node that take ticks
+abbrev pub module_takes_ticks : NodeModule → Bool
+module_takes_ticks Store = true
+module_takes_ticks Desk = false
+
 abbrev pub takes_ticks : Role → Bool
 takes_ticks Driver = false
-takes_ticks (Node Store node) = true
-takes_ticks (Node Desk node) = false
+takes_ticks (Node m node store) = module_takes_ticks m
 takes_ticks (Link link a b) = true
 
--- a Tick for each actor that takes one, where the first of these actors has the number given
-abbrev pub ticks : ℕ → ℕ → List Role → List Output
-ticks at number [] = []
-ticks at number (role ∷ roles) =
-    (if takes_ticks role then To number (item.Tick at) ∷ [] else []) ++ ticks at (number + 1) roles
+-- a Tick for an actor, which is given with its number, if it takes one
+abbrev pub tick_for : ℕ → ℕ × Role → List Output
+tick_for at actor = if takes_ticks actor.1 then To actor.0 (item.Tick at) ∷ [] else []
 
--- what the driver sends for a command; those that aren't here are in no scenario that the program runs
+-- a Tick for each actor that takes one
+abbrev pub ticks : List Role → ℕ → List Output
+ticks all at = flat_map (tick_for at) (enumerate_from 0 all)
+
+-- an item for a module of the node with this name, and one for a link
+abbrev pub to_module : List Role → NodeModule → List ℕ → Item → List Output
+to_module all m node item = To (module_number all m node) item ∷ []
+
+abbrev pub to_link : List Role → ℕ → Item → List Output
+to_link all link item = To (link_number all link) item ∷ []
+
+-- What the driver sends for a command. Those with nothing are in no scenario that the program runs yet; a settle ends the phase.
 unfoldable pub issues_of : List Role → Command → List Output
-issues_of all (Tick to) = ticks to 0 all
-issues_of all (Set node pair) = To (number_of (is_store_of node) 0 all) (item.Set pair) ∷ []
-issues_of all (Sync node link) = To (number_of (is_store_of node) 0 all) (item.Sync link) ∷ []
-issues_of all (Restart node) = To (number_of (is_store_of node) 0 all) item.Restart ∷ []
-issues_of all (Up link) = To (number_of (is_link link) 0 all) item.Up ∷ []
-issues_of all (Down link) = To (number_of (is_link link) 0 all) item.Down ∷ []
-issues_of all (Script link from acts) = To (number_of (is_link link) 0 all) (item.Script from acts) ∷ []
-issues_of all (Get node key) = To (number_of (is_desk_of node) 0 all) (item.Get key) ∷ []
-issues_of all _ = []
+issues_of all (Settle rounds show) = []
+issues_of all (Tick to) = ticks all to
+issues_of all (Set node pair) = to_module all Store node (item.Set pair)
+issues_of all (Sync node link) = to_module all Store node (item.Sync link)
+issues_of all (Restart node) = to_module all Store node item.Restart
+issues_of all (Up link) = to_link all link item.Up
+issues_of all (Down link) = to_link all link item.Down
+issues_of all (Script link from acts) = to_link all link (item.Script from acts)
+issues_of all (Get node key) = to_module all Desk node (item.Get key)
+issues_of all (Own node key value ttl) = []
+issues_of all (Disown node key) = []
+issues_of all (Drain node on) = []
+issues_of all (LinkDrain node link on) = []
+issues_of all (Metric node link metric) = []
+issues_of all (Advertise node entry) = []
+issues_of all (Withdraw node prefix) = []
+issues_of all (Aggregate node prefix least) = []
+issues_of all (Ask node prefix) = []
 
--- the moment after a command
+-- the moment after a command; a tick alone changes it
 abbrev pub moment_after : ℕ → Command → ℕ
 moment_after moment (Tick to) = to
 moment_after moment _ = moment
@@ -58,4 +82,4 @@ phases_from all moment issues (command ∷ commands) =
 
 -- the phases of a laboratory; its links belong to the first
 abbrev pub phases : Laboratory → List Phase
-phases lab = phases_from (roles lab) 0 (ups (roles lab) 0 lab.links) lab.commands
+phases lab = phases_from (roles lab) 0 (ups (roles lab) lab.links) lab.commands

@@ -1,19 +1,16 @@
-use Rattle.std.specs.Prelude.{◌≡◌, ℕ, List, [], ◌∷◌, Some, None, Result, Ok, Err}
+use Rattle.std.specs.Prelude.{◌≡◌, ℕ, List, [], ◌∷◌, Some, None, option_map, option_to_list, Result, Ok, Err}
 use Rattle.std.specs.List.{flat_map}
 use Rattle.or_base.specs.declared.entry.JournalEntry.{JournalEntry}
 use Rattle.net_record.specs.declared.part.Part.{Part}
-use Rattle.net_record.specs.declared.part.Part.TheVariants.{Driver, Store, Desk, Link}
 use Rattle.net_record.specs.declared.actor.ActorState.{ActorState}
 use Rattle.net_record.specs.declared.record.Record.{Record}
+use Rattle.net_record.specs.Actors.{store_of}
 use Rattle.net_record.specs.World.{WorldState}
 use Rattle.net_record.specs.Rounds.{Ended}
 
 -- the journal of an actor that is a store
 abbrev pub journal_of : Part → List (List JournalEntry)
-journal_of Driver = []
-journal_of (Desk d) = []
-journal_of (Link s) = []
-journal_of (Store s) = s.journal ∷ []
+journal_of part = option_to_list (option_map (λ s. s.journal) (store_of part))
 
 -- the journals of the stores among the actors, in order
 abbrev pub journals_of : List ActorState → List (List JournalEntry)

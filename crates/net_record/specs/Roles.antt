@@ -1,47 +1,71 @@
-use Rattle.std.specs.Prelude.{ℕ, ◌+◌, List, [], ◌∷◌, ◌++◌, Bool, false, ◌==◌, if◌then◌else◌}
+-- Which actors a laboratory has: the driver, then the modules of each node, then the links.
+use Rattle.std.specs.Prelude.{ℕ, ◌+◌, ◌*◌, List, [], ◌∷◌, ◌++◌, length, map, Bool, true, false, ◌&&◌, ◌==◌}
 use Rattle.std.specs.Str.{bytes_eq}
-use Rattle.std.specs.List.{flat_map}
-use Rattle.net_scenario.specs.declared.declared.NodeDecl.{NodeDecl}
-use Rattle.net_scenario.specs.declared.declared.LinkDecl.{LinkDecl}
-use Rattle.net_scenario.specs.Scenario.{Laboratory}
+use Rattle.std.specs.List.{flat_map, enumerate_from, position_or_len}
+use Rattle.or_base.specs.declared.kind.Kind.{Kind}
+use Rattle.or_base.specs.declared.kind.Kind.TheVariants.{Stores, Full}
+use Rattle.net_laboratory.specs.declared.declared.NodeDecl.{NodeDecl}
+use Rattle.net_laboratory.specs.declared.declared.LinkDecl.{LinkDecl}
+use Rattle.net_laboratory.specs.Limits.{most_nodes, most_links}
+use Rattle.net_laboratory.specs.Scenario.{Laboratory}
+use Rattle.net_record.specs.declared.role.NodeModule.{NodeModule}
 use Rattle.net_record.specs.declared.role.NodeModule.TheVariants.{Store, Desk}
 use Rattle.net_record.specs.declared.role.Role.{Role}
 use Rattle.net_record.specs.declared.role.Role.TheVariants.{Driver, Node, Link}
 
--- the modules of a node: a store and a desk
-abbrev pub node_roles : NodeDecl → List Role
-node_roles node = Node Store node.name ∷ Node Desk node.name ∷ []
+-- the modules of a node of each kind, in the order of their numbers; of a full node those that are built
+abbrev pub modules_of : Kind → List NodeModule
+modules_of Stores = Store ∷ Desk ∷ []
+modules_of Full = Store ∷ Desk ∷ []
 
--- the links, of which the first has this number
-abbrev pub link_roles : ℕ → List LinkDecl → List Role
-link_roles number [] = []
-link_roles number (link ∷ links) = Link number link.a link.b ∷ link_roles (number + 1) links
+abbrev pub is_same_module : NodeModule → NodeModule → Bool
+is_same_module Store Store = true
+is_same_module Desk Desk = true
+is_same_module _ _ = false
+
+-- the number of the first of these that passes a test; where none does, how many there are
+abbrev pub number_of : {A : Type 0} → (A → Bool) → List A → ℕ
+number_of test all = position_or_len test all
+
+-- the actor number of the store of a node, which is named by its place among the nodes
+abbrev pub store_number : List NodeModule → ℕ → ℕ
+store_number modules place = 1 + place * length modules + number_of (is_same_module Store) modules
+
+-- the modules of a node, which is given with its place among the nodes
+abbrev pub node_roles : List NodeModule → ℕ × NodeDecl → List Role
+node_roles modules node = map (λ m. Node m node.1.name (store_number modules node.0)) modules
+
+-- a link, which is given with its number
+abbrev pub link_role : ℕ × LinkDecl → Role
+link_role link = Link link.0 link.1.a link.1.b
 
 -- what the actors of a laboratory are, in the order of their numbers
 abbrev pub roles : Laboratory → List Role
-roles lab = Driver ∷ (flat_map node_roles lab.nodes ++ link_roles 0 lab.links)
+roles lab = Driver ∷ (flat_map (node_roles (modules_of lab.kind)) (enumerate_from 0 lab.nodes) ++ map link_role (enumerate_from 0 lab.links))
 
--- the store of the node with this name
-abbrev pub is_store_of : List ℕ → Role → Bool
-is_store_of name Driver = false
-is_store_of name (Node Store node) = bytes_eq node name
-is_store_of name (Node Desk node) = false
-is_store_of name (Link link a b) = false
+-- a node has at most so many modules
+abbrev pub most_modules : ℕ
+most_modules = 7
 
--- the desk of the node with this name
-abbrev pub is_desk_of : List ℕ → Role → Bool
-is_desk_of name Driver = false
-is_desk_of name (Node Store node) = false
-is_desk_of name (Node Desk node) = bytes_eq node name
-is_desk_of name (Link link a b) = false
+-- the driver, the modules of all nodes, and the links
+abbrev pub most_actors : ℕ
+most_actors = 1 + most_modules * most_nodes + most_links
 
--- the link with this number
+-- the actor is this module of the node with this name
+abbrev pub is_module : NodeModule → List ℕ → Role → Bool
+is_module m name Driver = false
+is_module m name (Node other node store) = is_same_module m other && bytes_eq node name
+is_module m name (Link link a b) = false
+
+-- the actor is the link with this number
 abbrev pub is_link : ℕ → Role → Bool
 is_link number Driver = false
-is_link number (Node part node) = false
+is_link number (Node m node store) = false
 is_link number (Link link a b) = link == number
 
--- the number of the first actor that passes a test, where the first of these has the number given
-abbrev pub number_of : (Role → Bool) → ℕ → List Role → ℕ
-number_of test number [] = number
-number_of test number (role ∷ roles) = if test role then number else number_of test (number + 1) roles
+-- the actor number of a module of the node with this name, and that of a link
+abbrev pub module_number : List Role → NodeModule → List ℕ → ℕ
+module_number all m name = number_of (is_module m name) all
+
+abbrev pub link_number : List Role → ℕ → ℕ
+link_number all link = number_of (is_link link) all

@@ -1,37 +1,34 @@
 use Rattle.std.specs.Prelude.{◌≡◌, ℕ, List, [], ◌∷◌, length, map, Bool, true, false, not, ◌&&◌, nat_le, if◌then◌else◌, Result, Ok, Err, None}
 use Rattle.or_base.specs.declared.item.TurnDone.{TurnDone}
-use Rattle.net_scenario.specs.Scenario.{Laboratory}
-use Rattle.net_scenario.specs.declared.schedule.Turn.{Turn}
+use Rattle.net_laboratory.specs.Scenario.{Laboratory}
+use Rattle.net_laboratory.specs.declared.schedule.Turn.{Turn}
 use Rattle.net_record.specs.declared.phase.Phase.{Phase}
 use Rattle.net_record.specs.Phases.{phases}
-use Rattle.net_record.specs.Actors.{Range}
+use Rattle.net_record.specs.Actors.{is_in_range}
 use Rattle.net_record.specs.Answers.{desks_asked}
-use Rattle.net_record.specs.World.{WorldState, start, turn, range, waiting, is_empty, is_drained, issued, settled}
+use Rattle.net_record.specs.World.{WorldState, start, turn, range, waiting, is_empty, is_drained, issue, settle}
 use Rattle.net_record.specs.Rounds.{round_robin}
 
--- a world, and the phases that haven't settled; the first of these has begun
+-- a world, and the phases that aren't settled; the first of these has begun
 pub record Progress : Type 0 where
   pub world : WorldState
   pub unsettled : List Phase
 
 -- the first of the phases begins
-abbrev pub begun : WorldState → List Phase → WorldState
-begun w [] = w
-begun w (phase ∷ phases) = issued w phase.issues
+abbrev pub begin : WorldState → List Phase → WorldState
+begin w [] = w
+begin w (phase ∷ phases) = issue w phase.issues
 
 -- A phase ends at the first moment when no item waits. Its settle is done then, and the next phase begins.
 abbrev pub advance : WorldState → List Phase → Progress
 advance w [] = record { world = w; unsettled = [] }
 advance w (phase ∷ phases) =
-    if is_drained w then advance (begun (settled phase.moment (desks_asked phase.issues) w) phases) phases else record { world = w; unsettled = phase ∷ phases }
-
-abbrev pub is_within : Range → ℕ → Bool
-is_within r at = nat_le r.least at && nat_le at r.most
+    if is_drained w then advance (begin (settle phase.moment (desks_asked phase.issues) w) phases) phases else record { world = w; unsettled = phase ∷ phases }
 
 -- A turn is legal where an item waits on its lane and its length is one that it may find: only a desk finds a length, and
 -- that of every other turn is 0.
 abbrev pub is_legal : WorldState → Turn → Bool
-is_legal w t = not (is_empty (waiting w t.lane)) && is_within (range w t.lane) t.at
+is_legal w t = not (is_empty (waiting w t.lane)) && is_in_range (range w t.lane) t.at
 
 abbrev pub is_open : List Phase → Bool
 is_open [] = false
@@ -48,7 +45,7 @@ run_from p (t ∷ ts) =
 
 -- the run of a laboratory under a schedule
 unfoldable pub run : Laboratory → List Turn → Result WorldState ℕ
-run lab turns = run_from (advance (begun (start lab) (phases lab)) (phases lab)) turns
+run lab turns = run_from (advance (begin (start lab) (phases lab)) (phases lab)) turns
 
 -- the turns of a schedule that were done
 abbrev pub schedule_of : List TurnDone → List Turn

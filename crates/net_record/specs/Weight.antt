@@ -1,5 +1,5 @@
 -- What the items of a run and its settles weigh.
-use Rattle.std.specs.Prelude.{ℕ, ◌+◌, ◌*◌, ◌-◌, ◌^◌, min, List, length, Some, None, sum_by}
+use Rattle.std.specs.Prelude.{ℕ, ◌+◌, ◌*◌, List, length, Some, None, sum_by}
 use Rattle.or_base.specs.declared.value.Pair.{Pair}
 use Rattle.or_base.specs.declared.digest.DigestRow.{DigestRow}
 use Rattle.or_base.specs.declared.entry.JournalEntry.{JournalEntry}
@@ -7,79 +7,114 @@ use Rattle.or_base.specs.declared.entry.JournalEntry.TheVariants.{Merged, Expire
 use Rattle.or_base.specs.declared.route.Route.{Route}
 use Rattle.or_base.specs.declared.route.Delta.{Delta}
 use Rattle.or_base.specs.declared.message.Msg.{Msg}
-use Rattle.or_base.specs.declared.message.Msg.TheVariants.{Hello, Handshake, Flood, Dump, Reply, Push}
+use Rattle.or_base.specs.declared.message.Msg.TheVariants.{Hello, Handshake, Heartbeat, Flood, Dump, Reply, Push, Ack}
 use Rattle.or_base.specs.declared.item.Item.{Item}
-use Rattle.or_base.specs.declared.item.Item.TheVariants.{Script, Set, Advertise, Withdraw, Aggregate, Ask, NeighbourUp, PeerUp, Net, Entry, Routes}
+use Rattle.or_base.specs.declared.item.Item.TheVariants.{Up, Down, Script, Tick, Set, Sync, Restart, Persist, Unset, Drain, LinkDrain, Metric, Advertise, Withdraw, Aggregate, Get, Ask, LinkUp, LinkDown, NeighbourUp, NeighbourDown, PeerUp, PeerDown, Net, Entry, Routes}
 use Rattle.or_base.specs.declared.item.TurnDone.{TurnDone}
 use Rattle.net_record.specs.declared.record.NodeMark.{NodeMark}
 use Rattle.net_record.specs.declared.record.SettleDone.{SettleDone}
-use Rattle.net_record.specs.declared.weight.TheConstants.{ITEM_WEIGHT, NAME_WEIGHT, KEY_WEIGHT, PREFIX_WEIGHT, ROUTE_WEIGHT, HOP_WEIGHT}
 
--- a count that stands still at the end of 64 bits
-abbrev pub capped : ℕ → ℕ
-capped n = min n (2 ^ 64 - 1)
+-- ---- what each thing weighs
+
+-- every item, beside its parts
+abbrev pub bare_item_weight : ℕ
+bare_item_weight = 64
+
+-- a name in an item: of a node or an interface, but not a hop
+abbrev pub name_weight : ℕ
+name_weight = 32
+
+-- a key with what it stands for (a pair, a digest row, an entry, a wanted key), beside its bytes
+abbrev pub bare_key_weight : ℕ
+bare_key_weight = 96
+
+-- a prefix in an item
+abbrev pub prefix_weight : ℕ
+prefix_weight = 64
+
+-- a route, in an item or at a settle, beside its hops
+abbrev pub bare_route_weight : ℕ
+bare_route_weight = 64
+
+abbrev pub hop_weight : ℕ
+hop_weight = 32
 
 -- ---- the parts of items
 
 -- a key that stands for itself: one that is wanted, or that of a digest row or of an entry
 abbrev pub key_weight : List ℕ → ℕ
-key_weight key = KEY_WEIGHT + length key
+key_weight key = bare_key_weight + length key
 
 -- a pair, whose originator is a name
 unfoldable pub pair_weight : Pair → ℕ
-pair_weight pair = key_weight pair.key + length pair.value.value + NAME_WEIGHT
+pair_weight pair = key_weight pair.key + length pair.value.value + name_weight
 
 -- a digest row, whose originator is a name
 unfoldable pub row_weight : DigestRow → ℕ
-row_weight row = key_weight row.key + NAME_WEIGHT
+row_weight row = key_weight row.key + name_weight
 
 -- an entry of a journal; the pair of one that merged counts besides
 unfoldable pub entry_weight : JournalEntry → ℕ
 entry_weight (Merged pair at origin) = key_weight pair.key + pair_weight pair
 entry_weight (Expired key at) = key_weight key
-entry_weight (Cleared at) = KEY_WEIGHT
+entry_weight (Cleared at) = bare_key_weight
 
 -- a route that a settle holds
 unfoldable pub held_route_weight : Route → ℕ
-held_route_weight route = ROUTE_WEIGHT + HOP_WEIGHT * length route.hops
+held_route_weight route = bare_route_weight + hop_weight * length route.hops
 
 -- a route in an item, whose prefix counts besides
 unfoldable pub route_weight : Route → ℕ
-route_weight route = held_route_weight route + PREFIX_WEIGHT
+route_weight route = held_route_weight route + prefix_weight
 
 unfoldable pub delta_weight : Delta → ℕ
-delta_weight delta = PREFIX_WEIGHT * length delta.del + sum_by route_weight delta.set
+delta_weight delta = prefix_weight * length delta.del + sum_by route_weight delta.set
 
 -- ---- items
 
 -- a message, beside what its item weighs
 unfoldable pub message_weight : Msg → ℕ
-message_weight (Hello iface None restarting) = NAME_WEIGHT
-message_weight (Hello iface (Some heard) restarting) = NAME_WEIGHT + NAME_WEIGHT
-message_weight (Handshake iface done) = NAME_WEIGHT
-message_weight (Flood passed pairs) = NAME_WEIGHT * length passed + sum_by pair_weight pairs
+message_weight (Hello iface None restarting) = name_weight
+message_weight (Hello iface (Some heard) restarting) = name_weight + name_weight
+message_weight (Handshake iface done) = name_weight
+message_weight (Flood passed pairs) = name_weight * length passed + sum_by pair_weight pairs
 message_weight (Dump session digest) = sum_by row_weight digest
 message_weight (Reply session b0 pairs wanted withheld) = sum_by pair_weight pairs + sum_by key_weight wanted
 message_weight (Push session pairs) = sum_by pair_weight pairs
-message_weight _ = 0
+message_weight Heartbeat = 0
+message_weight (Ack session) = 0
 
 -- what an item weighs beside what every item weighs
 unfoldable pub parts_weight : Item → ℕ
-parts_weight (Script from acts) = NAME_WEIGHT + length acts
+parts_weight (Script from acts) = name_weight + length acts
 parts_weight (Set pair) = pair_weight pair
-parts_weight (Advertise entry) = PREFIX_WEIGHT
-parts_weight (Withdraw prefix) = PREFIX_WEIGHT
-parts_weight (Aggregate prefix least) = PREFIX_WEIGHT
-parts_weight (Ask prefix) = PREFIX_WEIGHT
-parts_weight (NeighbourUp link peer peer_if) = NAME_WEIGHT + NAME_WEIGHT
-parts_weight (PeerUp link peer) = NAME_WEIGHT
-parts_weight (Net link from msg) = NAME_WEIGHT + message_weight msg
+parts_weight (Advertise entry) = prefix_weight
+parts_weight (Withdraw prefix) = prefix_weight
+parts_weight (Aggregate prefix least) = prefix_weight
+parts_weight (Ask prefix) = prefix_weight
+parts_weight (NeighbourUp link peer peer_if) = name_weight + name_weight
+parts_weight (PeerUp link peer) = name_weight
+parts_weight (Net link from msg) = name_weight + message_weight msg
 parts_weight (Entry entry) = entry_weight entry
 parts_weight (Routes delta) = delta_weight delta
-parts_weight _ = 0
+parts_weight Up = 0
+parts_weight Down = 0
+parts_weight (Tick at) = 0
+parts_weight (Sync link) = 0
+parts_weight Restart = 0
+parts_weight (Persist key value ttl) = 0
+parts_weight (Unset key) = 0
+parts_weight (Drain on) = 0
+parts_weight (LinkDrain link on) = 0
+parts_weight (Metric link metric) = 0
+parts_weight (Get key) = 0
+parts_weight (LinkUp link) = 0
+parts_weight (LinkDown link) = 0
+parts_weight (NeighbourDown link) = 0
+parts_weight (PeerDown link) = 0
 
 unfoldable pub item_weight : Item → ℕ
-item_weight item = ITEM_WEIGHT + parts_weight item
+item_weight item = bare_item_weight + parts_weight item
 
 -- ---- a run
 

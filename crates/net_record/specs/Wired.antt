@@ -2,11 +2,12 @@ use Rattle.std.specs.Prelude.{◌≡◌, ℕ, ◌<◌, length, All}
 use Rattle.net_record.specs.declared.wire.Wire.{Wire}
 use Rattle.net_record.specs.World.{WorldState}
 
--- the reader of the lane is one of the first n actors
-abbrev pub IsReadBelow : ℕ → Wire → Type 0
-IsReadBelow n wire = wire.reader < n
+-- the writer and the reader of the lane are among the first n actors
+pub record JoinsBelow (n : ℕ) (wire : Wire) : Type 0 where
+  pub writer : wire.writer < n
+  pub reader : wire.reader < n
 
--- each lane has its items, and its reader is one of the actors
+-- each lane has its items, and its ends are actors
 pub record IsWired (w : WorldState) : Type 0 where
   pub as_many : length w.lanes ≡ length w.wires
-  pub readers : All (IsReadBelow (length w.actors)) w.wires
+  pub ends : All (JoinsBelow (length w.actors)) w.wires

@@ -1,67 +1,93 @@
-use Rattle.std.specs.Prelude.{ℕ, ◌+◌, List, [], ◌∷◌, ◌++◌, Bool, true, false, ◌||◌, if◌then◌else◌}
+-- The lanes: one joins a writer to a reader wherever the one has items for the other.
+use Rattle.std.specs.Prelude.{ℕ, ◌+◌, List, [], ◌∷◌, Bool, true, false, ◌&&◌, ◌||◌, ◌==◌, Option, if◌then◌else◌}
 use Rattle.std.specs.Str.{bytes_eq}
-use Rattle.or_actor.specs.declared.ports.TheConstants.{STORE_PORT, STORE_PORT_AT_B, FIRST_LINK_PORT}
+use Rattle.std.specs.List.{flat_map, enumerate_from, position_from}
+use Rattle.or_actor.specs.Ports.{store_port, desk_port, first_link_port, end_b_ports}
 use Rattle.net_record.specs.declared.role.NodeModule.{NodeModule}
 use Rattle.net_record.specs.declared.role.NodeModule.TheVariants.{Store, Desk}
 use Rattle.net_record.specs.declared.role.Role.{Role}
 use Rattle.net_record.specs.declared.role.Role.TheVariants.{Driver, Node, Link}
 use Rattle.net_record.specs.declared.wire.Wire.{Wire}
 
--- the driver has items for every other actor
-abbrev pub is_driven : Role → Bool
-is_driven Driver = false
-is_driven (Node part node) = true
-is_driven (Link link a b) = true
+-- ---- the modules of a node, one row each
 
--- a store has messages for the links of its node
-abbrev pub ends_at : NodeModule → List ℕ → Role → Bool
-ends_at part node Driver = false
-ends_at part node (Node other name) = false
-ends_at Store node (Link link a b) = bytes_eq node a || bytes_eq node b
-ends_at Desk node (Link link a b) = false
+-- the driver has items for the module
+abbrev pub is_driven : NodeModule → Bool
+is_driven Store = true
+is_driven Desk = true
+
+-- messages go to and from the links of the module's node
+abbrev pub meets_links : NodeModule → Bool
+meets_links Store = true
+meets_links Desk = false
+
+-- the port by which the other modules of its node name it, and the links that have that node as their end a
+abbrev pub port_of_module : NodeModule → ℕ
+port_of_module Store = store_port
+port_of_module Desk = desk_port
+
+-- within a node, the first module has items for the second: the pairs that do, and no other
+abbrev pub has_items_within : NodeModule → NodeModule → Bool
+has_items_within _ _ = false
+
+-- ---- who has items for whom
+
+abbrev pub is_end_of : List ℕ → List ℕ → List ℕ → Bool
+is_end_of node a b = bytes_eq node a || bytes_eq node b
 
 -- an actor of the first role has items for one of the second
 abbrev pub has_items_for : Role → Role → Bool
-has_items_for Driver to = is_driven to
-has_items_for (Node part node) to = ends_at part node to
+has_items_for Driver Driver = false
+has_items_for Driver (Node m node store) = is_driven m
+has_items_for Driver (Link link a b) = true
+has_items_for (Node m node store) Driver = false
+has_items_for (Node m node store) (Node other name place) = bytes_eq node name && has_items_within m other
+has_items_for (Node m node store) (Link link a b) = meets_links m && is_end_of node a b
 has_items_for (Link link a b) Driver = false
-has_items_for (Link link a b) (Node part node) = ends_at part node (Link link a b)
+has_items_for (Link link a b) (Node m node store) = meets_links m && is_end_of node a b
 has_items_for (Link link a b) (Link other c d) = false
 
--- the port of a node's module for a link
-abbrev pub port_for_link : Role → ℕ
-port_for_link Driver = 0
-port_for_link (Node part node) = 0
-port_for_link (Link link a b) = FIRST_LINK_PORT + link
+-- ---- by which port
 
--- the port of a link between a and b for the store of an end, which is a or else b
-abbrev pub port_for_end : List ℕ → Role → ℕ
-port_for_end a Driver = 0
-port_for_end a (Node part node) = if bytes_eq node a then STORE_PORT else STORE_PORT_AT_B
-port_for_end a (Link link c d) = 0
+-- the port of a module of a node
+abbrev pub port_from_node : Role → ℕ
+port_from_node Driver = 0
+port_from_node (Node m node store) = port_of_module m
+port_from_node (Link link a b) = first_link_port + link
+
+-- the port of a link whose end a is given
+abbrev pub port_from_link : List ℕ → Role → ℕ
+port_from_link a Driver = 0
+port_from_link a (Node m node store) = if bytes_eq node a then port_of_module m else end_b_ports + port_of_module m
+port_from_link a (Link link b c) = 0
 
 -- the port by which an actor of the first role names its lane to one of the second, which has the number given
 abbrev pub port_of : Role → Role → ℕ → ℕ
 port_of Driver to reader = reader
-port_of (Node part node) to reader = port_for_link to
-port_of (Link link a b) to reader = port_for_end a to
+port_of (Node m node store) to reader = port_from_node to
+port_of (Link link a b) to reader = port_from_link a to
 
--- the lane from one actor to another, if there is one
-abbrev pub wire_between : ℕ → Role → ℕ → Role → List Wire
-wire_between writer from reader to =
-    if has_items_for from to then record { writer = writer; port = port_of from to reader; reader = reader } ∷ [] else []
+-- ---- lanes
 
--- the lanes to one reader from writers, of which the first has the number given, in the order of writers
-abbrev pub wires_to : ℕ → List Role → ℕ → Role → List Wire
-wires_to writer [] reader to = []
-wires_to writer (from ∷ others) reader to = wire_between writer from reader to ++ wires_to (writer + 1) others reader to
+-- the lane from one actor to another, each given with its number, if there is one
+abbrev pub wire_between : ℕ × Role → ℕ × Role → List Wire
+wire_between to from =
+    if has_items_for from.1 to.1 then record { writer = from.0; port = port_of from.1 to.1 to.0; reader = to.0 } ∷ [] else []
 
--- the lanes from all actors to readers, of which the first has the number given, in the order of readers
-abbrev pub wires_among : List Role → ℕ → List Role → List Wire
-wires_among all reader [] = []
-wires_among all reader (to ∷ others) = wires_to 0 all reader to ++ wires_among all (reader + 1) others
+-- the lanes to an actor, in the order of writers
+abbrev pub wires_to : List Role → ℕ × Role → List Wire
+wires_to all to = flat_map (wire_between to) (enumerate_from 0 all)
 
--- A lane joins a writer to a reader wherever the one has items for the other. Lanes are numbered from 0 in the order
--- of (reader, writer).
+-- All lanes among actors. They are numbered from 0 in the order of (reader, writer).
 abbrev pub wires : List Role → List Wire
-wires roles = wires_among roles 0 roles
+wires all = flat_map (wires_to all) (enumerate_from 0 all)
+
+-- ---- the lane of a port
+
+-- the lane is the one that a writer names by a port
+abbrev pub is_port : ℕ → ℕ → Wire → Bool
+is_port writer port wire = wire.writer == writer && wire.port == port
+
+-- the number of the lane that a writer names by a port, if there is one
+abbrev pub lane_of : List Wire → ℕ → ℕ → Option ℕ
+lane_of wires writer port = position_from (is_port writer port) 0 wires

@@ -1,24 +1,25 @@
 -- The world: the actors and the lanes among them, and what a turn, the issues of a phase and a settle make of it.
-use Rattle.std.specs.Prelude.{ℕ, ◌+◌, max, List, [], ◌∷◌, ◌++◌, length, drop, map, Option, Some, None, Bool, true, false, ◌&&◌, ◌==◌, if◌then◌else◌, slice_get, slice_set, slice_index_or, replicate}
+use Rattle.std.specs.Prelude.{ℕ, ◌+◌, max, List, [], ◌∷◌, ◌++◌, length, drop, map, Option, Some, None, Bool, true, false, slice_get, slice_set, slice_index_or, replicate}
 use Rattle.std.specs.List.{list_all, flat_map}
+use Rattle.std.specs.Option.{option_map_or}
 use Rattle.or_base.specs.declared.item.Stamped.{Stamped}
 use Rattle.or_base.specs.declared.item.TurnDone.{TurnDone}
 use Rattle.or_actor.specs.declared.output.Output.{Output}
 use Rattle.or_actor.specs.declared.output.Output.TheVariants.{To}
-use Rattle.net_scenario.specs.Scenario.{Laboratory}
+use Rattle.or_actor.specs.Steps.{TurnMade, turn_done}
+use Rattle.kv_store.specs.Store.{StoreState}
+use Rattle.net_laboratory.specs.Scenario.{Laboratory}
 use Rattle.net_record.specs.declared.role.Role.{Role}
 use Rattle.net_record.specs.declared.wire.Wire.{Wire}
 use Rattle.net_record.specs.declared.part.Part.{Part}
-use Rattle.net_record.specs.declared.part.Part.TheVariants.{Driver, Store, Desk, Link}
 use Rattle.net_record.specs.declared.actor.ActorState.{ActorState}
-use Rattle.net_record.specs.declared.lookup.Look.{Look}
 use Rattle.net_record.specs.declared.record.AnswerDone.{AnswerDone}
 use Rattle.net_record.specs.declared.record.NodeMark.{NodeMark}
 use Rattle.net_record.specs.declared.record.SettleDone.{SettleDone}
 use Rattle.net_record.specs.Roles.{roles}
-use Rattle.net_record.specs.Wires.{wires}
-use Rattle.net_record.specs.Actors.{new_actor, store_before, entries_of, asked_of, look, Range, range_for, next_stamp, actor_after, outputs_of, settled_actors}
-use Rattle.net_record.specs.Answers.{given}
+use Rattle.net_record.specs.Wires.{wires, lane_of}
+use Rattle.net_record.specs.Actors.{new_actor, store_of, Range, no_range, range_for, made_by, actor_after, outputs_of, actors_after_settle}
+use Rattle.net_record.specs.Answers.{giving_of}
 
 -- The lanes and, for each, the items that wait on it, the oldest first; the actors; the turns and the settles done.
 -- A lane is an unbounded list.
@@ -38,11 +39,7 @@ world_of all =
 abbrev pub start : Laboratory → WorldState
 start lab = world_of (roles lab)
 
--- the lane of a writer's port, if there is one, where the first of these lanes has the number given
-abbrev pub lane_from : ℕ → List Wire → ℕ → ℕ → Option ℕ
-lane_from number [] writer port = None
-lane_from number (wire ∷ wires) writer port =
-    if wire.writer == writer && wire.port == port then Some number else lane_from (number + 1) wires writer port
+-- ---- lanes
 
 -- the lanes after an item is put on one of them, or on none
 abbrev pub put : List (List Stamped) → Option ℕ → Stamped → List (List Stamped)
@@ -50,27 +47,10 @@ put lanes None s = lanes
 put lanes (Some lane) s = slice_set lanes lane (slice_index_or lanes lane [] ++ s ∷ [])
 
 -- the lanes after a writer's outputs are put on the lanes of their ports, in order, each with this stamp
-abbrev pub delivered : List Wire → ℕ → ℕ → List (List Stamped) → List Output → List (List Stamped)
-delivered wires writer stamp lanes [] = lanes
-delivered wires writer stamp lanes (To port item ∷ outputs) =
-    delivered wires writer stamp (put lanes (lane_from 0 wires writer port) (record { stamp = stamp; item = item })) outputs
-
--- the world after the turn of an actor with an item, which found this and leaves these items on the lane
-unfoldable pub turn_of : WorldState → ℕ → ℕ → ℕ → Stamped → List Stamped → ActorState → Look → WorldState
-turn_of w lane at reader s others actor found =
-    record {
-      wires = w.wires;
-      lanes = delivered w.wires reader (next_stamp actor s found) (slice_set w.lanes lane others) (outputs_of actor s.item at found);
-      actors = slice_set w.actors reader (actor_after actor s at found);
-      turns = w.turns ++ record { lane = lane; at = at; stamp = next_stamp actor s found; item = s.item } ∷ [];
-      settles = w.settles;
-    }
-
--- the same, where there may be no item or no actor: then nothing is done
-abbrev pub turn_by : WorldState → ℕ → ℕ → ℕ → List Stamped → Option ActorState → WorldState
-turn_by w lane at reader [] actor = w
-turn_by w lane at reader (s ∷ others) None = w
-turn_by w lane at reader (s ∷ others) (Some actor) = turn_of w lane at reader s others actor (look w.actors reader actor.part at s.item)
+abbrev pub deliver : List Wire → ℕ → ℕ → List (List Stamped) → List Output → List (List Stamped)
+deliver wires writer stamp lanes [] = lanes
+deliver wires writer stamp lanes (To port item ∷ outputs) =
+    deliver wires writer stamp (put lanes (lane_of wires writer port) (record { stamp = stamp; item = item })) outputs
 
 -- the reader of a lane
 abbrev pub reader_of : Option Wire → ℕ
@@ -81,26 +61,6 @@ reader_of (Some wire) = wire.reader
 abbrev pub waiting : WorldState → ℕ → List Stamped
 waiting w lane = slice_index_or w.lanes lane []
 
--- The turn of a lane, in which a desk finds so many entries: the lane's reader takes the front item, and what it sends is put
--- on the lanes of its ports. A lane on which no item waits leaves the world as it is.
-unfoldable pub turn : WorldState → ℕ → ℕ → WorldState
-turn w lane at =
-    let reader = reader_of (slice_get w.wires lane) in
-    turn_by w lane at reader (waiting w lane) (slice_get w.actors reader)
-
--- the lengths that the turn of an actor with the front one of these items may find
-abbrev pub range_by : List ActorState → ℕ → List Stamped → Option ActorState → Range
-range_by actors reader [] actor = record { least = 0; most = 0 }
-range_by actors reader (s ∷ others) None = record { least = 0; most = 0 }
-range_by actors reader (s ∷ others) (Some actor) =
-    range_for actor.part (entries_of (store_before actors reader).part) (asked_of actor.part s.item)
-
--- the lengths that the turn of a lane may find
-unfoldable pub range : WorldState → ℕ → Range
-range w lane =
-    let reader = reader_of (slice_get w.wires lane) in
-    range_by w.actors reader (waiting w lane) (slice_get w.actors reader)
-
 abbrev pub is_empty : List Stamped → Bool
 is_empty [] = true
 is_empty (s ∷ others) = false
@@ -109,44 +69,83 @@ is_empty (s ∷ others) = false
 abbrev pub is_drained : WorldState → Bool
 is_drained w = list_all is_empty w.lanes
 
+-- ---- a turn
+
+-- the world after this turn of the reader of a lane, which leaves these items on it
+unfoldable pub turn_of : WorldState → ℕ → List Stamped → ActorState → TurnMade → WorldState
+turn_of w reader others actor m =
+    record {
+      wires = w.wires;
+      lanes = deliver w.wires reader m.stamp (slice_set w.lanes m.lane others) (outputs_of actor m);
+      actors = slice_set w.actors reader (actor_after actor m);
+      turns = w.turns ++ turn_done m ∷ [];
+      settles = w.settles;
+    }
+
+-- the same, where there may be no item or no actor: then nothing is done
+abbrev pub turn_by : WorldState → ℕ → ℕ → ℕ → List Stamped → Option ActorState → WorldState
+turn_by w lane at reader [] actor = w
+turn_by w lane at reader (s ∷ others) None = w
+turn_by w lane at reader (s ∷ others) (Some actor) = turn_of w reader others actor (made_by w.actors actor lane at s)
+
+-- The turn of a lane, in which a desk finds a journal of this length: the lane's reader takes the front item, and what it sends
+-- is put on the lanes of its ports. A lane on which no item waits leaves the world as it is.
+unfoldable pub turn : WorldState → ℕ → ℕ → WorldState
+turn w lane at =
+    let reader = reader_of (slice_get w.wires lane) in
+    turn_by w lane at reader (waiting w lane) (slice_get w.actors reader)
+
+-- the lengths that the turn of an actor with the front one of these items may find
+abbrev pub range_by : List ActorState → List Stamped → Option ActorState → Range
+range_by actors [] actor = no_range
+range_by actors (s ∷ others) None = no_range
+range_by actors (s ∷ others) (Some actor) = range_for actors actor.part s.item
+
+-- the lengths that the turn of a lane may find
+unfoldable pub range : WorldState → ℕ → Range
+range w lane = range_by w.actors (waiting w lane) (slice_get w.actors (reader_of (slice_get w.wires lane)))
+
+-- ---- issues and settles
+
 -- the driver is the first actor
 abbrev pub driver_clock : List ActorState → ℕ
 driver_clock [] = 0
 driver_clock (driver ∷ others) = driver.clock
 
 -- a phase begins: the driver's items are put on its lanes, with the driver's clock as their stamp
-unfoldable pub issued : WorldState → List Output → WorldState
-issued w issues = record w { lanes = delivered w.wires 0 (driver_clock w.actors) w.lanes issues }
+unfoldable pub issue : WorldState → List Output → WorldState
+issue w issues = record w { lanes = deliver w.wires 0 (driver_clock w.actors) w.lanes issues }
 
 abbrev pub greatest_clock : List ActorState → ℕ
 greatest_clock [] = 0
 greatest_clock (actor ∷ actors) = max actor.clock (greatest_clock actors)
 
--- What a settle tells of an actor that told of so many finished full syncs before: of a store the length of its journal, its
--- count of stale messages, and the full syncs that it started and that were finished since then. No route is made yet.
-abbrev pub mark_of : Part → ℕ → List NodeMark
-mark_of Driver told = []
-mark_of (Desk d) told = []
-mark_of (Link s) told = []
-mark_of (Store s) told =
+-- What a settle tells of a store that told of so many finished full syncs before: the length of its journal, its count of stale
+-- messages, and the full syncs that it started and that were finished since then. No route is made yet.
+abbrev pub mark_of_store : ℕ → StoreState → List NodeMark
+mark_of_store told s =
     record { entries = length s.journal; stale = s.stale; syncs = drop told s.done; routes = []; fib_dirty = false; fib_routes = 0 } ∷ []
 
-abbrev pub marks_of : List ActorState → List NodeMark
-marks_of actors = flat_map (λ actor. mark_of actor.part actor.told) actors
+-- a node is told of where its store stands
+abbrev pub mark_of : ActorState → List NodeMark
+mark_of actor = option_map_or (mark_of_store actor.told) (store_of actor.part) []
 
--- what a settle at a moment tells, with these answers
-abbrev pub settle_done : ℕ → WorldState → List AnswerDone → SettleDone
-settle_done moment w answers = record { turns = length w.turns; moment = moment; nodes = marks_of w.actors; answers = answers }
+abbrev pub marks_of : List ActorState → List NodeMark
+marks_of actors = flat_map mark_of actors
+
+-- what a settle at a moment tells of actors after so many turns, with these answers
+abbrev pub settle_done : ℕ → ℕ → List ActorState → List AnswerDone → SettleDone
+settle_done moment count actors answers = record { turns = count; moment = moment; nodes = marks_of actors; answers = answers }
 
 -- A phase ends at a moment, in which these desks were asked: the settle is recorded, with an answer of each in this order. Every
 -- clock becomes one more than the greatest, and every desk has seen its store's journal.
-unfoldable pub settled : ℕ → List ℕ → WorldState → WorldState
-settled moment asked w =
-    let giving = given (record { actors = w.actors; answers = [] }) asked in
+unfoldable pub settle : ℕ → List ℕ → WorldState → WorldState
+settle moment asked w =
+    let giving = giving_of w.actors asked in
     record {
       wires = w.wires;
       lanes = w.lanes;
-      actors = settled_actors (greatest_clock w.actors + 1) 0 giving.actors;
+      actors = actors_after_settle (greatest_clock w.actors + 1) giving.actors;
       turns = w.turns;
-      settles = w.settles ++ settle_done moment w giving.answers ∷ [];
+      settles = w.settles ++ settle_done moment (length w.turns) w.actors giving.answers ∷ [];
     }

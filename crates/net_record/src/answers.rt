@@ -1,22 +1,21 @@
 ghost use Rattle.std.specs.Prelude.{◌≡◌, ◌++◌, IfOk, OnOk};
-ghost use Rattle.net_record.specs.Answers.{asked_with, desks_asked};
+ghost use Rattle.net_record.specs.Answers.{desk_asked, desks_asked};
 
+use crate::questions::is_question;
 use or_actor::Output;
-use or_base::{Item, NoMemory};
+use or_base::NoMemory;
 use std::alloc::Global;
 
 /// Adds the number of the desk that an output asks, if it asks one.
 fn add_asked(desks: &mut Vec<u32>, output: &Output) -> Result<(), NoMemory>
-    ensures { OnOk result (desks.new.items ≡ desks.old.items ++ asked_with output.now) }
+    ensures { OnOk result (desks.new.items ≡ desks.old.items ++ desk_asked output.now) }
 {
     match output {
-        Output::To {
-            lane,
-            item: Item::Get { .. },
-        } => {
-            desks.push(*lane)?;
+        Output::To { lane, item } => {
+            if is_question(item) {
+                desks.push(*lane)?;
+            }
         }
-        _ => {}
     }
     Ok(())
 }

@@ -22,35 +22,39 @@ mod actor;
 mod answers;
 mod budget;
 mod desk;
-mod finding;
-mod lookup;
+mod kinds;
 mod numbering;
 mod part;
 mod phase;
 mod phasing;
+mod ports;
+mod questions;
 mod record;
 mod role;
+mod stamps;
 mod stores;
 mod weight;
 mod wire;
 mod wiring;
 
-pub use actor::{ActorState, Sent};
+pub use actor::{ActorState, TurnOutputs};
 pub use answers::desks_asked;
-pub use budget::{MOST_TURNS, MOST_WEIGHT};
-pub use desk::Desk;
-pub use finding::{longest, look};
-pub use lookup::{Look, Stamps};
-pub use numbering::{MOST_ACTORS, roles};
+pub use budget::MOST_WEIGHT;
+pub use desk::{Desk, Question};
+pub use kinds::AnyModule;
+pub use numbering::{MOST_ACTORS, MOST_MODULES, link_number, module_number, roles};
 pub use part::Part;
 pub use phase::Phase;
 pub use phasing::phases;
+pub use ports::{Port, Wiring};
+pub use questions::{answer_of, is_question, longest, made_for};
 pub use record::{AnswerDone, NodeMark, Record, SettleDone};
 pub use role::{NodeModule, Role};
+pub use stamps::Stamps;
 pub use stores::{journals_of, marks_of};
 pub use weight::{
-    HOP_WEIGHT, ITEM_WEIGHT, KEY_WEIGHT, NAME_WEIGHT, PREFIX_WEIGHT, ROUTE_WEIGHT, add_item,
-    add_settle,
+    BARE_ITEM_WEIGHT, BARE_KEY_WEIGHT, BARE_ROUTE_WEIGHT, HOP_WEIGHT, NAME_WEIGHT, PREFIX_WEIGHT,
+    add_item, add_settle,
 };
 pub use wire::Wire;
 pub use wiring::wires;

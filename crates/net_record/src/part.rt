@@ -1,48 +1,43 @@
-ghost use Rattle.std.specs.Prelude.{◌≡◌, ◌++◌, take, length, IsTrue, IfOk, OnOk};
-ghost use Rattle.std.specs.Option.{option_map};
-ghost use Rattle.or_base.specs.Journal.{held_value};
-ghost use Rattle.net_record.specs.Desk.{question};
+ghost use Rattle.std.specs.Prelude.{◌≡◌, ◌<◌, ◌-◌, ◌^◌, ◌++◌, length, option_map, slice_index_or, IsTrue, IfOk, OnOk};
+ghost use Rattle.net_record.specs.Actors.{node_part};
 
 use crate::desk::Desk;
-use crate::lookup::held_at;
-use crate::record::AnswerDone;
+use crate::kinds::AnyModule;
 use crate::role::{NodeModule, Role};
 use kv_store::KvModule;
 use net_link::LinkModule;
-use or_actor::Outbox;
-use or_base::{Item, Key, KvValue, NoMemory};
+use or_actor::{Module, Outbox, has_small_link};
+use or_base::{Item, JournalEntry, Name, NoMemory};
 use std::alloc::Global;
 
-/// The module of an actor, of whichever kind.
+/// What an actor is.
 #[derive(Drop)]
 pub enum Part {
     /// The driver, which takes no items.
     Driver,
-    /// A node's store.
-    Store(KvModule),
     /// A node's desk.
     Desk(Desk),
-    /// A link.
-    Link(LinkModule),
+    /// A module.
+    Module(AnyModule),
 }
 
-/// The key that an item asks for.
-fn question(item: &Item) -> Option<&Key>
-    ensures { option_map (λ key. key.now) result ≡ question item.now }
+/// A module of a node as it starts.
+fn node_part(alloc: Global, module_: NodeModule, node: Name, store: u32) -> Result<Part, NoMemory>
+    ensures { IfOk result (λ part. part ≡ node_part module_ node store) }
 {
-    match item {
-        Item::Get { key } => Some(key),
-        _other => None,
+    match module_ {
+        NodeModule::Store => Ok(Part::Module(AnyModule::Store(KvModule::new(alloc, node)?))),
+        NodeModule::Desk => Ok(Part::Desk(Desk::new(alloc, node, store))),
     }
 }
 
 impl Part {
+    ghost use Rattle.std.specs.Option.{option_map_or};
+    ghost use Rattle.net_record.specs.Actors.{new_part, store_of, desk_of, entries_of, finished_by, part_step, part_shown, part_after_settle, part_without_question};
     ghost use Rattle.or_actor.specs.Fits.{has_small_link, have_small_links};
-    ghost use Rattle.net_record.specs.Actors.{new_part, entries_of, asked_of, last_of, finished_by, part_step, settled_part};
-    ghost use Rattle.net_record.specs.Answers.{answer_of, part_without};
     ghost use Rattle.net_record.specs.Small.{HasSmallNumber};
 
-    /// The module of an actor as it starts.
+    /// What an actor is as it starts.
     pub fn new(alloc: Global, role: &Role) -> Result<Part, NoMemory>
         requires { HasSmallNumber role.now }
         ensures { IfOk result (λ part. part ≡ new_part role.now) }
@@ -50,16 +45,45 @@ impl Part {
         match role {
             Role::Driver => Ok(Part::Driver),
             Role::Node {
-                module: NodeModule::Store,
+                module,
                 node,
-            } => Ok(Part::Store(KvModule::new(alloc, node.copied()?)?)),
-            Role::Node {
-                module: NodeModule::Desk,
-                node,
-            } => Ok(Part::Desk(Desk::new(alloc, node.copied()?))),
+                store,
+            } => node_part(alloc, *module, node.copied()?, *store),
             Role::Link { link, a, b } => {
-                Ok(Part::Link(LinkModule::new(alloc, *link, a.copied()?, b.copied()?)))
+                let link = LinkModule::new(alloc, *link, a.copied()?, b.copied()?);
+                Ok(Part::Module(AnyModule::Link(link)))
             }
+        }
+    }
+
+    /// The store that it is, if it is one. It takes no memory.
+    pub fn store(&self) -> Option<&KvModule>
+        ensures { option_map (λ s. s.now) result ≡ store_of self.now }
+    {
+        match self {
+            Part::Module(module_) => module_.store(),
+            _other => None,
+        }
+    }
+
+    /// The desk that it is, if it is one. It takes no memory.
+    pub fn desk(&self) -> Option<&Desk>
+        ensures { option_map (λ d. d.now) result ≡ desk_of self.now }
+    {
+        match self {
+            Part::Desk(desk) => Some(desk),
+            _other => None,
+        }
+    }
+
+    /// The entries of its journal, where it is a store; else none. It takes no memory.
+    pub fn entries(&self) -> &[JournalEntry]
+        ensures entries { result.now ≡ entries_of self.now }
+        ensures small { length result.now < 2 ^ 63 }
+    {
+        match self.store() {
+            Some(store) => store.table().journal(),
+            None => &[],
         }
     }
 
@@ -67,85 +91,112 @@ impl Part {
     pub fn finished(&self) -> u64
         ensures { result ≡ finished_by self.now }
     {
-        match self {
-            Part::Store(store) => store.done().len() as u64,
-            _other => 0,
+        match self.store() {
+            Some(store) => store.done().len() as u64,
+            None => 0,
         }
     }
 
-    /// The length of its journal, where it is a store. It takes no memory.
-    pub fn entry_count(&self) -> usize
-        ensures { result ≡ length (entries_of self.now) }
+    /// A journal of this length is shown to it, before it takes the item, so that a question to a desk finds it. It takes no
+    /// memory.
+    pub fn show(&mut self, item: &Item, at: u64)
+        requires { at < 2 ^ 64 - 1 }
+        ensures { self.new ≡ part_shown self.old item.now at }
     {
         match self {
-            Part::Store(store) => store.table().journal().len(),
-            _other => 0,
-        }
-    }
-
-    /// The value that the first `at` entries of its journal hold under the key.
-    pub fn held_at(&self, at: u64, key: &Key) -> Result<Option<KvValue>, NoMemory>
-        ensures { IfOk result (λ held. held ≡ held_value (take at (entries_of self.now)) key.now) }
-    {
-        match self {
-            Part::Store(store) => held_at(store.table().journal(), at, key),
-            _other => Ok(None),
-        }
-    }
-
-    /// The key that an item asks it for. It takes no memory.
-    pub fn asked<'a>(&self, item: &'a Item) -> Option<&'a Key>
-        ensures { option_map (λ key. key.now) result ≡ asked_of self.now item.now }
-    {
-        match self {
-            Part::Desk(_desk) => question(item),
-            _other => None,
-        }
-    }
-
-    /// One turn, in which a desk found `at` entries that hold this value.
-    #[tactic(auto, unfolding(crate::specs::Actors::part_step))]
-    pub fn step(
-        &mut self,
-        item: Item,
-        at: u64,
-        held: Option<KvValue>,
-        out: &mut Outbox,
-    ) -> Result<(), NoMemory>
-        requires { IsTrue (has_small_link item) }
-        ensures state { OnOk result (self.new ≡ (part_step self.old item at held).0) }
-        ensures sent { OnOk result (out.new ≡ out.old ++ (part_step self.old item at held).1) }
-        ensures small { OnOk result (IsTrue (have_small_links (part_step self.old item at held).1)) }
-    {
-        match self {
-            Part::Driver => {
-                let _item = item;
-            }
-            Part::Desk(desk) => desk.step(item, at, held)?,
-            Part::Store(store) => store.step(item, out)?,
-            Part::Link(link) => link.step(item, out)?,
-        }
-        Ok(())
-    }
-
-    /// A settle lets it see so many entries, where it is a desk. It takes no memory.
-    pub fn settle(&mut self, found: u64)
-        ensures { self.new ≡ settled_part found self.old }
-    {
-        match self {
-            Part::Desk(desk) => desk.settle(found),
+            Part::Desk(desk) => desk.show(item, at),
             _other => {}
         }
     }
 
-    /// Takes the oldest of its answers, where it is a desk that has one. It takes no memory.
-    pub fn take_answer(&mut self) -> Option<AnswerDone>
-        ensures answer { result ≡ answer_of self.old }
-        ensures left { self.new ≡ part_without self.old }
+    /// One turn, in which a desk finds a journal of the length `at`.
+    #[tactic(auto, using(crate::proofs::Parts::state_shown, crate::proofs::Parts::sent_shown))]
+    pub fn take(
+        &mut self,
+        lane: u32,
+        item: Item,
+        at: u64,
+        out: &mut Outbox,
+    ) -> Result<(), NoMemory>
+        requires item { IsTrue (has_small_link item) }
+        requires at { at < 2 ^ 64 - 1 }
+        ensures state { OnOk result (self.new ≡ (part_step self.old lane item at).0) }
+        ensures sent { OnOk result (out.new ≡ out.old ++ (part_step self.old lane item at).1) }
+        ensures small { OnOk result (IsTrue (have_small_links (part_step self.old lane item at).1)) }
+    {
+        self.show(&item, at);
+        let _found = self.turn(lane, item, out)?;
+        Ok(())
+    }
+
+    /// A settle, at which the journals of the actors have these lengths. It takes no memory.
+    pub fn settle(&mut self, lengths: &[u64])
+        requires { (n : _) → slice_index_or lengths.now n 0 < 2 ^ 64 - 1 }
+        ensures { self.new ≡ part_after_settle lengths.now self.old }
     {
         match self {
-            Part::Desk(desk) => desk.take_answer(),
-            _other => None,
+            Part::Desk(desk) => {
+                let entries = match lengths.get(desk.store() as usize) {
+                    Some(entries) => *entries,
+                    None => 0,
+                };
+                desk.settle(entries);
+            }
+            _other => {}
+        }
+    }
+
+    /// Forgets its oldest question, where it is a desk that has one. It takes no memory.
+    pub fn forget(&mut self)
+        ensures { self.new ≡ part_without_question self.old }
+    {
+        match self {
+            Part::Desk(desk) => desk.forget(),
+            _other => {}
+        }
+    }
+}
+
+impl Module for Part {
+    ghost use Rattle.or_actor.specs.Fits.{has_small_link, have_small_links};
+    ghost use Rattle.or_actor.specs.Steps.{turned};
+    ghost use Rattle.net_record.specs.declared.part.Part.{Part};
+    ghost use Rattle.net_record.specs.Actors.{part_step, part_may_find, part_finds};
+
+    ghost State = { Part };
+
+    ghost state = { λ part. part };
+
+    ghost may_take = { λ part item. has_small_link item };
+
+    ghost may_find = { part_may_find };
+
+    ghost step = { part_step };
+
+    fn fits(&self, item: &Item) -> bool {
+        match self {
+            Part::Module(module_) => module_.fits(item),
+            _other => has_small_link(item),
+        }
+    }
+
+    /// A desk finds the length that was shown to it last.
+    #[tactic(auto, unfolding(crate::specs::Actors::part_step), using(crate::proofs::Parts::desk_turned))]
+    fn turn(&mut self, lane: u32, item: Item, out: &mut Outbox) -> Result<u64, NoMemory>
+        requires { IsTrue (has_small_link item) }
+        ensures found { IfOk result (λ at. IsTrue (part_may_find self.old item at)) }
+        ensures state { IfOk result (λ at. self.new ≡ (turned at self.old (part_step self.old lane item at)).0) }
+        ensures sent { IfOk result (λ at. out.new ≡ out.old ++ (turned at self.old (part_step self.old lane item at)).1) }
+        ensures small { IfOk result (λ at. IsTrue (have_small_links (turned at self.old (part_step self.old lane item at)).1)) }
+        ensures shown { IfOk result (λ at. at ≡ part_finds self.old item) }
+    {
+        match self {
+            Part::Driver => {
+                let _item = item;
+                Ok(0)
+            }
+            Part::Desk(desk) => desk.take(item),
+            Part::Module(module_) => module_.turn(lane, item, out),
         }
     }
 }

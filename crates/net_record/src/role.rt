@@ -14,8 +14,12 @@ pub enum NodeModule {
 pub enum Role {
     /// Gives out what the commands say.
     Driver,
-    /// A module of a node.
-    Node { module: NodeModule, node: Name },
+    /// A module of a node, whose store is the actor with the number `store`.
+    Node {
+        module: NodeModule,
+        node: Name,
+        store: u32,
+    },
     /// A link between the nodes a and b.
     Link { link: u32, a: Name, b: Name },
 }

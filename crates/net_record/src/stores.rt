@@ -3,7 +3,6 @@ ghost use Rattle.net_record.specs.World.{marks_of};
 ghost use Rattle.net_record.specs.Records.{journals_of};
 
 use crate::actor::ActorState;
-use crate::part::Part;
 use crate::record::NodeMark;
 use or_base::{JournalEntry, NoMemory, Seq, SyncDone, copied_items};
 use std::alloc::Global;
@@ -25,7 +24,7 @@ pub fn marks_of(alloc: Global, actors: &[ActorState]) -> Result<Vec<NodeMark>, N
 {
     let mut marks = Vec::new(alloc);
     for actor in actors {
-        if let Part::Store(store) = &actor.part {
+        if let Some(store) = actor.part.store() {
             marks.push(NodeMark {
                 entries: store.table().journal().len() as u64,
                 stale: store.stale(),
@@ -45,7 +44,7 @@ pub fn journals_of(alloc: Global, actors: &[ActorState]) -> Result<Vec<Seq<Journ
 {
     let mut journals = Vec::new(alloc);
     for actor in actors {
-        if let Part::Store(store) = &actor.part {
+        if let Some(store) = actor.part.store() {
             let journal = copied_items(alloc, store.table().journal())?;
             journals.push(Seq::from_vec(journal))?;
         }

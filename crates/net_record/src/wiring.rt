@@ -1,24 +1,58 @@
 ghost use Rattle.std.specs.Prelude.{◌≡◌, ◌+◌, ◌*◌, ◌≤◌, ◌<◌, ◌^◌, ◌++◌, ℕ, All, length, vec_len, IfOk, OnOk};
-ghost use Rattle.net_record.specs.Wires.{is_driven, ends_at, has_items_for, port_for_link, port_for_end, port_of, wire_between, wires_to, wires};
+ghost use Rattle.net_record.specs.Roles.{most_actors};
+ghost use Rattle.net_record.specs.Wires.{is_driven, meets_links, port_of_module, has_items_within, is_end_of, has_items_for, port_from_node, port_from_link, port_of, wire_between, wires_to, wires};
 ghost use Rattle.net_record.specs.Small.{HasSmallNumber};
-ghost use Rattle.net_record.specs.Wired.{IsReadBelow};
+ghost use Rattle.net_record.specs.Wired.{JoinsBelow};
 
 use crate::role::{NodeModule, Role};
 use crate::wire::Wire;
-use or_actor::{FIRST_LINK_PORT, STORE_PORT, STORE_PORT_AT_B};
+use or_actor::{DESK_PORT, END_B_PORTS, FIRST_LINK_PORT, STORE_PORT};
 use or_base::{Name, NoMemory};
 use std::alloc::Global;
 
-/// A module of a node has messages for the link, or the link for it.
-fn ends_at(part: NodeModule, node: &Name, to: &Role) -> bool
-    ensures { result ≡ ends_at part node.now to.now }
+/// The driver has items for the module.
+fn is_driven(module_: NodeModule) -> bool
+    ensures { result ≡ is_driven module_ }
 {
-    match (part, to) {
-        (NodeModule::Store, Role::Link { a, b, .. }) => {
-            node.as_str() == a.as_str() || node.as_str() == b.as_str()
-        }
-        _ => false,
+    match module_ {
+        NodeModule::Store | NodeModule::Desk => true,
     }
+}
+
+/// Messages go to and from the links of the module's node.
+fn meets_links(module_: NodeModule) -> bool
+    ensures { result ≡ meets_links module_ }
+{
+    match module_ {
+        NodeModule::Store => true,
+        NodeModule::Desk => false,
+    }
+}
+
+/// The port by which the other modules of its node name the module, and the links that have that node as their end a.
+fn port_of_module(module_: NodeModule) -> u32
+    ensures port { result ≡ port_of_module module_ }
+    ensures small { result < 8 }
+{
+    match module_ {
+        NodeModule::Store => STORE_PORT,
+        NodeModule::Desk => DESK_PORT,
+    }
+}
+
+/// Within a node, the first module has items for the second.
+fn has_items_within(from: NodeModule, to: NodeModule) -> bool
+    ensures { result ≡ has_items_within from to }
+{
+    let _pair = (from, to);
+    false
+}
+
+/// The node is an end of a link between a and b.
+fn is_end_of(node: &Name, a: &Name, b: &Name) -> bool
+    ensures { result ≡ is_end_of node.now a.now b.now }
+{
+    node.as_str() == a.as_str() || node.as_str() == b.as_str()
 }
 
 /// An actor of the first role has items for one of the second.
@@ -26,35 +60,48 @@ fn has_items_for(from: &Role, to: &Role) -> bool
     ensures { result ≡ has_items_for from.now to.now }
 {
     match (from, to) {
-        (Role::Driver, Role::Driver) => false,
-        (Role::Driver, _) => true,
-        (Role::Node { module, node }, to) => ends_at(*module, node, to),
-        (from, Role::Node { module, node }) => ends_at(*module, node, from),
+        (Role::Driver, Role::Node { module, .. }) => is_driven(*module),
+        (Role::Driver, Role::Link { .. }) => true,
+        (
+            Role::Node { module, node, .. },
+            Role::Node {
+                module: other,
+                node: name,
+                ..
+            },
+        ) => node.as_str() == name.as_str() && has_items_within(*module, *other),
+        (Role::Node { module, node, .. }, Role::Link { a, b, .. }) => {
+            meets_links(*module) && is_end_of(node, a, b)
+        }
+        (Role::Link { a, b, .. }, Role::Node { module, node, .. }) => {
+            meets_links(*module) && is_end_of(node, a, b)
+        }
         _ => false,
     }
 }
 
-/// The port of a node's module for a link.
-fn port_for_link(to: &Role) -> u32
+/// The port of a module of a node.
+fn port_from_node(to: &Role) -> u32
     requires { HasSmallNumber to.now }
-    ensures { result ≡ port_for_link to.now }
+    ensures { result ≡ port_from_node to.now }
 {
     match to {
+        Role::Driver => 0,
+        Role::Node { module, .. } => port_of_module(*module),
         Role::Link { link, .. } => FIRST_LINK_PORT + *link,
-        _ => 0,
     }
 }
 
-/// The port of a link, whose end a is given, for the store of an end.
-fn port_for_end(a: &Name, to: &Role) -> u32
-    ensures { result ≡ port_for_end a.now to.now }
+/// The port of a link, whose end a is given.
+fn port_from_link(a: &Name, to: &Role) -> u32
+    ensures { result ≡ port_from_link a.now to.now }
 {
     match to {
-        Role::Node { node, .. } => {
+        Role::Node { module, node, .. } => {
             if node.as_str() == a.as_str() {
-                STORE_PORT
+                port_of_module(*module)
             } else {
-                STORE_PORT_AT_B
+                END_B_PORTS + port_of_module(*module)
             }
         }
         _ => 0,
@@ -68,8 +115,8 @@ fn port_of(from: &Role, to: &Role, reader: u32) -> u32
 {
     match from {
         Role::Driver => reader,
-        Role::Node { .. } => port_for_link(to),
-        Role::Link { a, .. } => port_for_end(a, to),
+        Role::Node { .. } => port_from_node(to),
+        Role::Link { a, .. } => port_from_link(a, to),
     }
 }
 
@@ -82,7 +129,7 @@ fn add_wire(
     to: &Role,
 ) -> Result<(), NoMemory>
     requires { HasSmallNumber to.now }
-    ensures added { OnOk result (lanes.new.items ≡ lanes.old.items ++ wire_between writer from.now reader to.now) }
+    ensures added { OnOk result (lanes.new.items ≡ lanes.old.items ++ wire_between (reader, to.now) (writer, from.now)) }
     ensures len { OnOk result (vec_len lanes.new ≤ vec_len lanes.old + 1) }
 {
     if has_items_for(from, to) {
@@ -97,12 +144,12 @@ fn add_wire(
 }
 
 /// Adds the lanes to one reader, in the order of their writers.
-#[tactic(auto, using(crate::proofs::Wired::wires_to_more))]
+#[tactic(auto, using(crate::proofs::Enumerated::flat_more))]
 fn add_wires_to(lanes: &mut Vec<Wire>, all: &[Role], reader: u32, to: &Role) -> Result<(), NoMemory>
-    requires few { length all.now ≤ 385 }
+    requires few { length all.now ≤ most_actors }
     requires small { HasSmallNumber to.now }
-    ensures added { OnOk result (lanes.new.items ≡ lanes.old.items ++ wires_to 0 all.now reader to.now) }
-    ensures len { OnOk result (vec_len lanes.new ≤ vec_len lanes.old + 385) }
+    ensures added { OnOk result (lanes.new.items ≡ lanes.old.items ++ wires_to all.now (reader, to.now)) }
+    ensures len { OnOk result (vec_len lanes.new ≤ vec_len lanes.old + most_actors) }
 {
     for (writer, from) in all.iter().enumerate() {
         add_wire(lanes, writer as u32, from, reader, to)?;
@@ -111,9 +158,9 @@ fn add_wires_to(lanes: &mut Vec<Wire>, all: &[Role], reader: u32, to: &Role) -> 
 }
 
 /// Adds the lanes to every actor, in the order of their readers.
-#[tactic(auto, using(crate::proofs::Wired::wires_among_more))]
+#[tactic(auto, using(crate::proofs::Enumerated::flat_more))]
 fn lanes_among(alloc: Global, all: &[Role]) -> Result<Vec<Wire>, NoMemory>
-    requires few { length all.now ≤ 385 }
+    requires few { length all.now ≤ most_actors }
     requires small { All HasSmallNumber all.now }
     ensures lanes { IfOk result (λ lanes. lanes.items ≡ wires all.now) }
     ensures few { IfOk result (λ lanes. vec_len lanes < 2 ^ 32) }
@@ -126,13 +173,13 @@ fn lanes_among(alloc: Global, all: &[Role]) -> Result<Vec<Wire>, NoMemory>
 }
 
 /// The lanes among actors that are given in the order of their numbers.
-#[tactic(auto, using(crate::proofs::Wired::readers_of_lanes))]
+#[tactic(auto, using(crate::proofs::Wired::ends_of_lanes))]
 pub fn wires(alloc: Global, all: &[Role]) -> Result<Vec<Wire>, NoMemory>
-    requires few { length all.now ≤ 385 }
+    requires few { length all.now ≤ most_actors }
     requires small { All HasSmallNumber all.now }
     ensures lanes { IfOk result (λ lanes. lanes.items ≡ wires all.now) }
     ensures few { IfOk result (λ lanes. vec_len lanes < 2 ^ 32) }
-    ensures readers { IfOk result (λ lanes. All (IsReadBelow (length all.now)) lanes.items) }
+    ensures ends { IfOk result (λ lanes. All (JoinsBelow (length all.now)) lanes.items) }
 {
     let lanes = lanes_among(alloc, all)?;
     Ok(lanes)

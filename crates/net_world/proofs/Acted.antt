@@ -6,12 +6,14 @@ use Rattle.std.proofs.lemmas.List.{get_or_past, get_or_read}
 use Rattle.std.proofs.lemmas.List.Elements.{All-nil, All-append, All-set, All-get_or, All-same, All-weaker, All-replicate}
 use Rattle.or_base.specs.declared.item.Item.{Item}
 use Rattle.or_base.specs.declared.item.Stamped.{Stamped}
+use Rattle.or_actor.specs.declared.output.Output.{Output}
+use Rattle.or_actor.specs.Steps.{TurnMade, turn_made, next_stamp}
 use Rattle.net_record.specs.declared.part.Part.{Part}
 use Rattle.net_record.specs.declared.actor.ActorState.{ActorState}
-use Rattle.net_record.specs.declared.lookup.Look.{Look}
-use Rattle.net_record.specs.Actors.{no_actor, entries_of, store_before, asked_of, made_at, look_in, look, part_step, actor_after, next_stamp}
+use Rattle.net_record.specs.Desk.{DeskState, key_asked}
+use Rattle.net_record.specs.Actors.{no_actor, actor_at, desk_of, entries_of, made_at, made_asked, made_for, part_step, actor_after, outputs_of}
 use Rattle.net_world.specs.Sound.{IsAtMost, IsClockedBelow, StayClocked}
-use Rattle.net_world.specs.Acting.{actor_at, found_by, actors_after, stamp_by}
+use Rattle.net_world.specs.Acting.{made_from, actors_after}
 use Rattle.net_world.proofs.Clocked.{clocked_same}
 
 -- what is at most a bound is at most a greater one
@@ -24,16 +26,12 @@ clocks_weaker m n actors h =
 
 -- ---- what a desk finds was made by a turn that is done
 
-stamps_below : (most : ℕ) (actors : List ActorState) (n : ℕ) → All (IsClockedBelow most) actors → All (IsAtMost most) (get_or actors n no_actor).made
+stamps_below : (most : ℕ) (actors : List ActorState) (n : ℕ) → All (IsClockedBelow most) actors → All (IsAtMost most) (actor_at actors n).made
 stamps_below most actors n all =
     elim (cases_lt n (length actors)) [
       | inl within ↦ (All-get_or (IsClockedBelow most) actors n no_actor within all).1
       | inr past ↦ subst (λ (a : ActorState). All (IsAtMost most) a.made) (sym (get_or_past actors n no_actor past)) (All-nil (IsAtMost most))
     ]
-
-store_below : (most : ℕ) (actors : List ActorState) (n : ℕ) → All (IsClockedBelow most) actors → All (IsAtMost most) (store_before actors n).made
-store_below most actors zero all = All-nil (IsAtMost most)
-store_below most actors (suc n) all = stamps_below most actors n all
 
 stamp_below : (most : ℕ) (stamps : List ℕ) (n : ℕ) → All (IsAtMost most) stamps → get_or stamps n 0 ≤ most
 stamp_below most stamps n all =
@@ -46,52 +44,50 @@ made_below : (most : ℕ) (stamps : List ℕ) (at : ℕ) → All (IsAtMost most)
 made_below most stamps zero all = omega arith
 made_below most stamps (suc n) all = stamp_below most stamps n all
 
-look_in_below : (most : ℕ) (store : ActorState) (at : ℕ) (asked : Option (List ℕ)) → All (IsAtMost most) store.made → (look_in store at asked).made ≤ most
-look_in_below most store at None all = omega arith
-look_in_below most store at (Some key) all = made_below most store.made at all
+asked_below : (most : ℕ) (actors : List ActorState) (desk : Option DeskState) (asked : Option (List ℕ)) (at : ℕ) → All (IsClockedBelow most) actors → made_asked actors desk asked at ≤ most
+asked_below most actors None asked at all = omega arith
+asked_below most actors (Some d) None at all = omega arith
+asked_below most actors (Some d) (Some key) at all = made_below most (actor_at actors d.store).made at (stamps_below most actors d.store all)
 
-look_below : (most : ℕ) (actors : List ActorState) (number : ℕ) (part : Part) (at : ℕ) (item : Item) → All (IsClockedBelow most) actors → (look actors number part at item).made ≤ most
-unfolding look
-look_below most actors number part at item all =
-    look_in_below most (store_before actors number) at (asked_of part item) (store_below most actors number all)
+found_below : (most : ℕ) (actors : List ActorState) (part : Part) (item : Item) (at : ℕ) → All (IsClockedBelow most) actors → made_for actors part item at ≤ most
+unfolding made_for
+found_below most actors part item at all = asked_below most actors (desk_of part) (key_asked item) at all
 
 -- ---- a turn
 
-pub length-after : (actors : List ActorState) (number : ℕ) (s : Stamped) (at : ℕ) → length (actors_after actors number s at) ≡ length actors
-length-after actors number s at = length-set actors number (actor_after (actor_at actors number) s at (found_by actors number s at))
+pub length-after : (actors : List ActorState) (number : ℕ) (m : TurnMade) → length (actors_after actors number m) ≡ length actors
+length-after actors number m = length-set actors number (actor_after (actor_at actors number) m)
 
 -- its stamp
-pub stamp_most : (most : ℕ) (actors : List ActorState) (number : ℕ) (s : Stamped) (at : ℕ) → number < length actors → s.stamp ≤ most → All (IsClockedBelow most) actors
-    → stamp_by actors number s at ≤ most + 1
-stamp_most most actors number s at there taken all =
+pub stamp_most : (most : ℕ) (actors : List ActorState) (number lane at : ℕ) (s : Stamped) → number < length actors → s.stamp ≤ most → All (IsClockedBelow most) actors
+    → (made_from actors number lane at s).stamp ≤ most + 1
+stamp_most most actors number lane at s there taken all =
     omega (
       arith,
       taken,
       (All-get_or (IsClockedBelow most) actors number no_actor there all).0,
-      look_below most actors number (actor_at actors number).part at s.item all,
+      found_below most actors (actor_at actors number).part s.item at all,
     )
 
-clock_after : (before : ActorState) (s : Stamped) (at : ℕ) (found : Look) → (actor_after before s at found).clock ≡ next_stamp before s found
+clock_after : (before : ActorState) (m : TurnMade) → (actor_after before m).clock ≡ m.stamp
 unfolding actor_after
-clock_after before s at found = refl
+clock_after before m = refl
 
-made_after : (most : ℕ) (before : ActorState) (s : Stamped) (at : ℕ) (found : Look) → All (IsAtMost most) before.made → next_stamp before s found ≤ most → All (IsAtMost most) (actor_after before s at found).made
+made_after : (most : ℕ) (before : ActorState) (m : TurnMade) → All (IsAtMost most) before.made → m.stamp ≤ most → All (IsAtMost most) (actor_after before m).made
 unfolding actor_after
-made_after most before s at found all h =
-    let after = (part_step before.part s.item at found.held).0 in
+made_after most before m all h =
+    let after = (part_step before.part m.lane m.taken.item m.at).0 in
     let count = length (entries_of after) - length (entries_of before.part) in
-    All-append (IsAtMost most) before.made (replicate count (next_stamp before s found)) all (All-replicate (IsAtMost most) count (next_stamp before s found) h)
+    All-append (IsAtMost most) before.made (replicate count m.stamp) all (All-replicate (IsAtMost most) count m.stamp h)
 
 -- the clocks and stamps after it
-pub clocks_after : (most : ℕ) (actors : List ActorState) (number : ℕ) (s : Stamped) (at : ℕ) → number < length actors → s.stamp ≤ most → All (IsClockedBelow most) actors
-    → All (IsClockedBelow (most + 1)) (actors_after actors number s at)
-clocks_after most actors number s at there taken all =
+pub clocks_after : (most : ℕ) (actors : List ActorState) (number : ℕ) (m : TurnMade) → m.stamp ≤ most + 1 → All (IsClockedBelow most) actors
+    → All (IsClockedBelow (most + 1)) (actors_after actors number m)
+clocks_after most actors number m stamp all =
     let before = actor_at actors number in
-    let found = found_by actors number s at in
-    let stamp : next_stamp before s found ≤ most + 1 = stamp_most most actors number s at there taken all in
     let older = stamps_weaker most (most + 1) before.made (omega arith) (stamps_below most actors number all) in
-    All-set (IsClockedBelow (most + 1)) actors number (actor_after before s at found)
-    (omega (arith, clock_after before s at found, stamp), made_after (most + 1) before s at found older stamp)
+    All-set (IsClockedBelow (most + 1)) actors number (actor_after before m)
+    (omega (arith, clock_after before m, stamp), made_after (most + 1) before m older stamp)
     (clocks_weaker most (most + 1) actors (omega arith) all)
 
 -- ---- what a turn asks
@@ -101,35 +97,51 @@ clock_fits actors number actor all there at =
     let same = get_or_read actors number actor there at no_actor in
     omega (arith, ap (λ (a : ActorState). a.clock) same, (All-get_or (IsClockedBelow (2 ^ 64 - 2)) actors number no_actor there all).0)
 
-pub made_fits : (actors : List ActorState) (number : ℕ) (part : Part) (at : ℕ) (item : Item) (found : Look) → All (IsClockedBelow (2 ^ 64 - 2)) actors → found ≡ look actors number part at item → found.made + 1 < 2 ^ 64
-made_fits actors number part at item found all is =
-    omega (arith, ap (λ (f : Look). f.made) is, look_below (2 ^ 64 - 2) actors number part at item all)
+pub found_fits : (actors : List ActorState) (part : Part) (item : Item) (at found : ℕ) → All (IsClockedBelow (2 ^ 64 - 2)) actors → found ≡ made_for actors part item at → found + 1 < 2 ^ 64
+found_fits actors part item at found all is = omega (arith, is, found_below (2 ^ 64 - 2) actors part item at all)
 
 -- what it makes, for the actor that is there
-pub made_state : (actors after : List ActorState) (number : ℕ) (actor turned : ActorState) (s : Stamped) (at : ℕ) (found : Look) → number < length actors → actor ≡ get_or actors number actor
-    → found ≡ found_by actors number s at → turned ≡ actor_after actor s at found → after ≡ set actors number turned → after ≡ actors_after actors number s at
-made_state actors after number actor turned s at found there is looked became put =
+is_made : (actors : List ActorState) (number lane at found : ℕ) (reader actor : ActorState) (s : Stamped) → number < length actors → reader ≡ get_or actors number reader → actor ≡ get_or actors number actor
+    → found ≡ made_for actors reader.part s.item at → turn_made actor.clock lane at s found ≡ made_from actors number lane at s
+is_made actors number lane at found reader actor s there read is looked =
     let same = get_or_read actors number actor there is no_actor in
-    put ∙ ap (set actors number) (became ∙ ap (λ a. actor_after a s at found) same ∙ ap (actor_after (actor_at actors number) s at) looked)
+    let also = get_or_read actors number reader there read no_actor in
+    ap (λ (a : ActorState). turn_made a.clock lane at s found) same
+    ∙ ap (turn_made (actor_at actors number).clock lane at s) (looked ∙ ap (λ (a : ActorState). made_for actors a.part s.item at) also)
 
-pub made_stamp : (actors : List ActorState) (number : ℕ) (actor : ActorState) (s : Stamped) (at stamp : ℕ) (found : Look) → number < length actors → actor ≡ get_or actors number actor
-    → found ≡ found_by actors number s at → stamp ≡ next_stamp actor s found → stamp ≡ stamp_by actors number s at
-made_stamp actors number actor s at stamp found there is looked stamped =
+pub made_state : (actors after : List ActorState) (number lane at found : ℕ) (reader actor changed : ActorState) (s : Stamped) → number < length actors → reader ≡ get_or actors number reader
+    → actor ≡ get_or actors number actor → found ≡ made_for actors reader.part s.item at → changed ≡ actor_after actor (turn_made actor.clock lane at s found) → after ≡ set actors number changed
+    → after ≡ actors_after actors number (made_from actors number lane at s)
+made_state actors after number lane at found reader actor changed s there read is looked became put =
     let same = get_or_read actors number actor there is no_actor in
-    stamped ∙ ap (λ a. next_stamp a s found) same ∙ ap (next_stamp (actor_at actors number) s) looked
+    put ∙ ap (set actors number)
+    (became ∙ ap (actor_after actor) (is_made actors number lane at found reader actor s there read is looked) ∙ ap (λ a. actor_after a (made_from actors number lane at s)) same)
 
--- a turn that wanted memory
-pub clocked_kept : (actors after : List ActorState) (number : ℕ) (actor turned : ActorState) → number < length actors → actor ≡ get_or actors number actor
-    → turned.clock ≡ actor.clock → turned.made ≡ actor.made → after ≡ set actors number turned → StayClocked actors after
-clocked_kept actors after number actor turned there is clock made put =
+pub made_stamp : (actors : List ActorState) (number lane at found stamp : ℕ) (reader actor : ActorState) (s : Stamped) → number < length actors → reader ≡ get_or actors number reader
+    → actor ≡ get_or actors number actor → found ≡ made_for actors reader.part s.item at → stamp ≡ next_stamp s.stamp actor.clock found
+    → stamp ≡ (made_from actors number lane at s).stamp
+made_stamp actors number lane at found stamp reader actor s there read is looked stamped =
+    stamped ∙ ap (λ (m : TurnMade). m.stamp) (is_made actors number lane at found reader actor s there read is looked)
+
+pub made_outputs : (actors : List ActorState) (number lane at found : ℕ) (outputs : List Output) (reader actor : ActorState) (s : Stamped) → number < length actors → reader ≡ get_or actors number reader
+    → actor ≡ get_or actors number actor → found ≡ made_for actors reader.part s.item at → outputs ≡ outputs_of actor (turn_made actor.clock lane at s found)
+    → outputs ≡ outputs_of (actor_at actors number) (made_from actors number lane at s)
+made_outputs actors number lane at found outputs reader actor s there read is looked sent =
+    let same = get_or_read actors number actor there is no_actor in
+    sent ∙ ap (outputs_of actor) (is_made actors number lane at found reader actor s there read is looked) ∙ ap (λ a. outputs_of a (made_from actors number lane at s)) same
+
+-- a turn that ran out of memory
+pub clocked_kept : (actors after : List ActorState) (number : ℕ) (actor changed : ActorState) → number < length actors → actor ≡ get_or actors number actor
+    → changed.clock ≡ actor.clock → changed.made ≡ actor.made → after ≡ set actors number changed → StayClocked actors after
+clocked_kept actors after number actor changed there is clock made put =
     let same = get_or_read actors number actor there is no_actor in
     record {
-      len = ap length put ∙ length-set actors number turned;
+      len = ap length put ∙ length-set actors number changed;
       clocks = λ most all.
           let below = All-get_or (IsClockedBelow most) actors number no_actor there all in
-          All-same (IsClockedBelow most) after (set actors number turned) put
-          (All-set (IsClockedBelow most) actors number turned
+          All-same (IsClockedBelow most) after (set actors number changed) put
+          (All-set (IsClockedBelow most) actors number changed
           (omega (arith, below.0, clock, ap (λ (a : ActorState). a.clock) same), subst (λ ns. All (IsAtMost most) ns) (sym (made ∙ ap (λ (a : ActorState). a.made) same)) below.1) all);
     }
 
-pub ruleset acting = (clock_fits, made_fits, made_state, made_stamp, clocked_kept, clocked_same)
+pub ruleset acting = (clock_fits, found_fits, made_state, made_stamp, made_outputs, clocked_kept, clocked_same)

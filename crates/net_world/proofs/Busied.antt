@@ -1,7 +1,7 @@
 -- The numbers of the lanes on which an item waits, kept beside the lanes, and a round that goes through these alone.
 use Rattle.std.proofs.Common.{◌≡◌, ℕ, zero, suc, ◌+◌, ◌<◌, ◌≤◌, ◌↔◌, List, [], ◌∷◌, ◌++◌, Bool, true, false, cond, ◌==◌, length, map, get_or, set, replicate, refl, sym, ap, ◌∙◌, arith, length-set, append_assoc}
 use Rattle.std.specs.Prelude.{All, IsTrue}
-use Rattle.std.specs.List.{list_all}
+use Rattle.std.specs.List.{list_all, enumerate_from}
 use Rattle.std.specs.Ordering.{nat_cmp}
 use Rattle.std.specs.declared.cmp.Ordering.TheVariants.{Less, Equal, Greater}
 use Rattle.std.specs.BTreeSet.{insert_key}
@@ -14,7 +14,11 @@ use Rattle.or_base.specs.declared.item.Stamped.{Stamped}
 use Rattle.net_record.specs.World.{WorldState, is_empty}
 use Rattle.net_record.specs.Rounds.{turns_on, round_from, round}
 use Rattle.net_world.specs.declared.lanes.Busy.{Busy}
-use Rattle.net_world.specs.Busy.{busy_from, busy_at, busy_lanes, turns_on_each, AreBusy, marked, unmarked}
+use Rattle.net_world.specs.Busy.{busy_among, busy_at, busy_lanes, turns_on_each, AreBusy, with_busy, without_busy}
+
+-- the numbers of the busy ones of lanes, of which the first has the number given
+abbrev busy_from : ℕ → List (List Stamped) → List ℕ
+busy_from number lanes = busy_among (enumerate_from number lanes)
 
 -- ---- the order of numbers
 
@@ -122,7 +126,7 @@ busy_same lanes after busy lane items are within same h = are ∙ same_from 0 la
 
 -- an item was put on a lane
 marked_by : (lanes after : List (List Stamped)) (busy busier : List ℕ) (lane : ℕ) (items : List Stamped) (empty : Bool) → AreBusy lanes busy → lane < length lanes → is_empty items ≡ false
-    → is_empty (get_or lanes lane []) ≡ empty → busier ≡ marked empty lane busy → after ≡ set lanes lane items → AreBusy after busier
+    → is_empty (get_or lanes lane []) ≡ empty → busier ≡ with_busy empty lane busy → after ≡ set lanes lane items → AreBusy after busier
 marked_by lanes after busy busier lane items true are within waits was e h = busy_insert lanes after busy busier lane items are within waits e h
 marked_by lanes after busy busier lane items false are within waits was e h =
     e ∙ busy_same lanes after busy lane items are within (waits ∙ sym was) h
@@ -132,19 +136,19 @@ waits_behind [] s = refl
 waits_behind (first ∷ items) s = refl
 
 pub busy_put : (lanes after : List (List Stamped)) (busy busier : List ℕ) (lane : ℕ) (front now : List Stamped) (s : Stamped) (empty : Bool) → AreBusy lanes busy → lane < length lanes
-    → front ≡ get_or lanes lane [] → now ≡ front ++ s ∷ [] → empty ≡ is_empty (get_or lanes lane []) → busier ≡ marked empty lane busy → after ≡ set lanes lane now → AreBusy after busier
+    → front ≡ get_or lanes lane [] → now ≡ front ++ s ∷ [] → empty ≡ is_empty (get_or lanes lane []) → busier ≡ with_busy empty lane busy → after ≡ set lanes lane now → AreBusy after busier
 busy_put lanes after busy busier lane front now s empty are within is put was e h =
     marked_by lanes after busy busier lane now empty are within (ap is_empty put ∙ waits_behind front s) (sym was) e h
 
 -- an item was taken from a lane
 pub busy_taken : (lanes after : List (List Stamped)) (busy left : List ℕ) (lane : ℕ) (items : List Stamped) (empty : Bool) → AreBusy lanes busy → lane < length lanes
-    → is_empty (get_or lanes lane []) ≡ false → empty ≡ is_empty items → left ≡ unmarked empty lane busy → after ≡ set lanes lane items → AreBusy after left
+    → is_empty (get_or lanes lane []) ≡ false → empty ≡ is_empty items → left ≡ without_busy empty lane busy → after ≡ set lanes lane items → AreBusy after left
 busy_taken lanes after busy left lane items true are within waits is e h = busy_remove lanes after busy left lane items are within (sym is) e h
 busy_taken lanes after busy left lane items false are within waits is e h = e ∙ busy_same lanes after busy lane items are within (sym is ∙ sym waits) h
 
 -- an item could not be put on a lane
 pub busy_back : (lanes after : List (List Stamped)) (busy busier left : List ℕ) (lane : ℕ) (items : List Stamped) (s : Stamped) (empty : Bool) → AreBusy lanes busy → lane < length lanes
-    → items ≡ get_or lanes lane [] → empty ≡ is_empty (get_or lanes lane []) → busier ≡ marked empty lane busy → left ≡ unmarked empty lane busier → after ≡ set lanes lane items
+    → items ≡ get_or lanes lane [] → empty ≡ is_empty (get_or lanes lane []) → busier ≡ with_busy empty lane busy → left ≡ without_busy empty lane busier → after ≡ set lanes lane items
     → AreBusy after left
 busy_back lanes after busy busier left lane items s true are within is was e back h =
     busy_remove (set lanes lane (s ∷ [])) after busier left lane items

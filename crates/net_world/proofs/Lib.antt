@@ -3,7 +3,6 @@ pub mod Clocked
 pub mod Acted
 pub mod Settled
 pub mod Soundness
-pub mod Ported
 pub mod Busied
 pub mod Weighed
 pub mod Turning

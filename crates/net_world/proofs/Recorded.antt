@@ -1,6 +1,6 @@
 -- What the laws of rounds say of the record of a run by rounds.
 use Rattle.std.proofs.Common.{refl, sym, subst}
-use Rattle.net_scenario.specs.Scenario.{Laboratory}
+use Rattle.net_laboratory.specs.Scenario.{Laboratory}
 use Rattle.net_record.specs.declared.record.Record.{Record}
 use Rattle.net_record.specs.Rounds.{round_robin}
 use Rattle.net_record.specs.Run.{run, schedule_of, RoundsAreARun}

@@ -3,14 +3,14 @@ use Rattle.std.proofs.Common.{◌≡◌, ℕ, suc, ◌+◌, ◌-◌, ◌<◌, Li
 use Rattle.net_record.specs.declared.phase.Phase.{Phase}
 use Rattle.net_record.specs.World.{WorldState, turn, is_drained}
 use Rattle.net_record.specs.Budget.{is_over}
-use Rattle.net_record.specs.Rounds.{Marked, Ended, longest, turns_on, rounds_of, after_round, phase_of, settle_of, rounds_from}
+use Rattle.net_record.specs.Rounds.{Marked, Ended, longest, turns_on, rounds_of, after_round, phase_of, settle_after, rounds_from}
 use Rattle.net_world.specs.Settling.{after_phase, settles_phase}
 
 -- one of so many turns
 pub turns_step : (w : WorldState) (lane count done : ℕ) → done < count → is_over w ≡ false → turns_on (turn w lane (longest w lane)) lane (count - (done + 1)) ≡ turns_on w lane (count - done)
 turns_step w lane count done h within = let e : count - done ≡ suc (count - (done + 1)) = omega arith in rw (e, within) refl
 
--- no turn more, since the budget is passed
+-- no turn more, since the budget is exceeded
 pub turns_stop : (w : WorldState) (lane count done : ℕ) → done < count → is_over w ≡ true → w ≡ turns_on w lane (count - done)
 turns_stop w lane count done h over = let e : count - done ≡ suc (count - (done + 1)) = omega arith in rw (e, over) refl
 
@@ -52,7 +52,7 @@ pub phases_step : (number : ℕ) (m after : Marked) (phase : Phase) (phases left
     → rounds_from (number + 1) after phases ≡ rounds_from number m left
 phases_step number m after phase phases left e ran settled =
     let done = phase_of m phase in
-    let next = settle_of phase done in
+    let next = settle_after phase done in
     let unsettled = is_over done.world || not (is_drained done.world) in
     rw (
       e,
@@ -67,7 +67,7 @@ pub phases_stop : (number : ℕ) (m after : Marked) (phase : Phase) (phases left
     → record { unsettled = Some number; last = after } ≡ rounds_from number m left
 phases_stop number m after phase phases left e ran unsettles =
     let done = phase_of m phase in
-    let next = settle_of phase done in
+    let next = settle_after phase done in
     rw (e, ran) (stops (is_over done.world || not (is_drained done.world)) (is_over next.world) number done next (rounds_from (number + 1) next phases) unsettles)
 
 pub ruleset phases_steps = (phases_step, phases_stop)

@@ -1,29 +1,25 @@
--- Actors are settled one after another.
-use Rattle.std.proofs.Common.{◌≡◌, ℕ, zero, suc, ◌+◌, ◌<◌, ◌≤◌, List, [], ◌∷◌, ◌++◌, length, get_or, set, take, drop, refl, ap, sym, ◌∙◌, arith, add-one, append-nil, take_all, drop_of_length-le}
-use Rattle.net_record.specs.declared.actor.ActorState.{ActorState}
-use Rattle.net_record.specs.Actors.{no_actor, entries_of, settled_actor, settled_actors}
+-- The items of a list are changed one after another.
+use Rattle.std.proofs.Common.{◌≡◌, ℕ, zero, suc, ◌+◌, ◌<◌, ◌≤◌, List, [], ◌∷◌, ◌++◌, length, map, get_or, set, take, drop, refl, ap, sym, ◌∙◌, arith, add-one, append-nil, take_all, drop_of_length-le}
 
-settle_next : (clock found number : ℕ) (actors : List ActorState) → number < length actors
-    → take (suc number) (set actors number (settled_actor clock found (get_or actors number no_actor)))
-    ++ settled_actors clock (length (entries_of (get_or actors number no_actor).part)) (drop (suc number) (set actors number (settled_actor clock found (get_or actors number no_actor))))
-    ≡ take number actors ++ settled_actors clock found (drop number actors)
-settle_next clock found number [] within = absurd (omega (arith, within))
-settle_next clock found zero (actor ∷ actors) within = refl
-settle_next clock found (suc number) (actor ∷ actors) within =
-    ap (λ others. actor ∷ others) (settle_next clock found number actors (omega (arith, within)))
+next : {X : Type 0} (f : X → X) (number : ℕ) (xs : List X) (d : X) → number < length xs
+    → take (suc number) (set xs number (f (get_or xs number d))) ++ map f (drop (suc number) (set xs number (f (get_or xs number d))))
+    ≡ take number xs ++ map f (drop number xs)
+next f number [] d within = absurd (omega (arith, within))
+next f zero (x ∷ xs) d within = refl
+next f (suc number) (x ∷ xs) d within = ap (λ others. x ∷ others) (next f number xs d (omega (arith, within)))
 
--- one actor more
-pub settle_more : (clock found number entries : ℕ) (actors after : List ActorState) (actor settled : ActorState) (all : List ActorState) → number < length actors
-    → actor ≡ get_or actors number no_actor → entries ≡ length (entries_of actor.part) → settled ≡ settled_actor clock found actor → after ≡ set actors number settled
-    → take number actors ++ settled_actors clock found (drop number actors) ≡ all
-    → take (number + 1) after ++ settled_actors clock entries (drop (number + 1) after) ≡ all
-settle_more clock found number entries actors after actor settled all within is count became put so_far =
-    rw (put, became, count, is, add-one number) (settle_next clock found number actors within ∙ so_far)
+-- one more
+pub map_next : {X : Type 0} (f : X → X) (number : ℕ) (xs after : List X) (x changed d : X) (all : List X) → number < length xs
+    → x ≡ get_or xs number d → changed ≡ f x → after ≡ set xs number changed
+    → take number xs ++ map f (drop number xs) ≡ all
+    → take (number + 1) after ++ map f (drop (number + 1) after) ≡ all
+map_next f number xs after x changed d all within is became put so_far =
+    rw (put, became, is, add-one number) (next f number xs d within ∙ so_far)
 
--- no actor is left
-pub settle_end : (clock found number : ℕ) (actors all : List ActorState) → length actors ≤ number → take number actors ++ settled_actors clock found (drop number actors) ≡ all → actors ≡ all
-settle_end clock found number actors all past so_far =
-    sym (append-nil actors)
-    ∙ ap (λ xs. xs ++ []) (sym (take_all number actors past))
-    ∙ ap (λ left. take number actors ++ settled_actors clock found left) (sym (drop_of_length-le actors past))
+-- none is left
+pub map_end : {X : Type 0} (f : X → X) (number : ℕ) (xs all : List X) → length xs ≤ number → take number xs ++ map f (drop number xs) ≡ all → xs ≡ all
+map_end f number xs all past so_far =
+    sym (append-nil xs)
+    ∙ ap (λ ys. ys ++ []) (sym (take_all number xs past))
+    ∙ ap (λ left. take number xs ++ map f left) (sym (drop_of_length-le xs past))
     ∙ so_far

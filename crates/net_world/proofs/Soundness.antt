@@ -10,10 +10,10 @@ use Rattle.net_record.specs.declared.role.Role.{Role}
 use Rattle.net_record.specs.declared.wire.Wire.{Wire}
 use Rattle.net_record.specs.declared.actor.ActorState.{ActorState}
 use Rattle.net_record.specs.declared.record.SettleDone.{SettleDone}
-use Rattle.net_record.specs.Wired.{IsReadBelow, IsWired}
-use Rattle.net_record.specs.Actors.{new_actor, entries_of, settled_actor, settled_actors}
+use Rattle.net_record.specs.Wired.{JoinsBelow, IsWired}
+use Rattle.net_record.specs.Actors.{new_actor, journal_lengths, actor_after_settle, actors_after_settle}
 use Rattle.net_record.specs.World.{WorldState, is_empty, driver_clock, greatest_clock}
-use Rattle.net_world.specs.Acting.{actors_after, stamp_by}
+use Rattle.net_world.specs.Acting.{made_from, actors_after}
 use Rattle.net_world.proofs.Acted.{clocks_weaker, stamp_most, length-after, clocks_after}
 use Rattle.net_world.specs.Sound.{IsSoundItem, IsSoundLane, IsAtMost, IsClockedBelow, StaySound, StayClocked, IsSound, done_in}
 
@@ -61,7 +61,7 @@ wired_with : (w : WorldState) (lanes : List (List Stamped)) (actors : List Actor
     → length actors ≡ length w.actors → IsWired (record { wires = w.wires; lanes = lanes; actors = actors; turns = turns; settles = settles })
 wired_with w lanes actors turns settles wired e h = record {
   as_many = e ∙ wired.as_many;
-  readers = subst (λ n. All (IsReadBelow n) w.wires) (sym h) wired.readers;
+  ends = subst (λ n. All (JoinsBelow n) w.wires) (sym h) wired.ends;
 }
 
 sound_with : (w : WorldState) (most : ℕ) (lanes : List (List Stamped)) (actors : List ActorState) (turns : List TurnDone) (settles : List SettleDone) → IsSound w
@@ -78,7 +78,7 @@ sound_with w most lanes actors turns settles sound e h n items clocks = record {
 pub reader_there : (w : WorldState) (lane reader : ℕ) (d : Wire) → IsSound w → lane < length w.lanes → reader ≡ (get_or w.wires lane d).reader → reader < length w.actors
 reader_there w lane reader d sound within is =
     subst (λ n. n < length w.actors) (sym is)
-    (All-get_or (IsReadBelow (length w.actors)) w.wires lane d (omega (arith, within, sound.wired.as_many)) sound.wired.readers)
+    (All-get_or (JoinsBelow (length w.actors)) w.wires lane d (omega (arith, within, sound.wired.as_many)) sound.wired.ends).reader
 
 -- a world without an item that was taken
 pub sound_left : (w : WorldState) (lane : ℕ) (s : Stamped) (others : List Stamped) (lanes : List (List Stamped)) (turns : List TurnDone) → IsSound w
@@ -98,32 +98,34 @@ sound_kept w lane s others lanes turns actors sound e left n stay =
     (stay.clocks (done_in w) sound.clocks)
 
 -- the world after a turn
-pub sound_turned : (w : WorldState) (lane reader : ℕ) (s : Stamped) (others : List Stamped) (left lanes : List (List Stamped)) (turns : List TurnDone) (actors : List ActorState) (at stamp : ℕ)
+pub sound_turn : (w : WorldState) (lane reader : ℕ) (s : Stamped) (others : List Stamped) (left lanes : List (List Stamped)) (turns : List TurnDone) (actors : List ActorState) (at stamp : ℕ)
     → IsSound w → get_or w.lanes lane [] ≡ s ∷ others → left ≡ set w.lanes lane others → length turns ≡ length w.turns + 1
-    → reader < length w.actors → actors ≡ actors_after w.actors reader s at → stamp ≡ stamp_by w.actors reader s at
+    → reader < length w.actors → actors ≡ actors_after w.actors reader (made_from w.actors reader lane at s) → stamp ≡ (made_from w.actors reader lane at s).stamp
     → length lanes ≡ length left → StaySound stamp left lanes
     → IsSound (record { wires = w.wires; lanes = lanes; actors = actors; turns = turns; settles = w.settles })
-sound_turned w lane reader s others left lanes turns actors at stamp sound e is n there became stamped len stay =
+sound_turn w lane reader s others left lanes turns actors at stamp sound e is n there became stamped len stay =
     let taken : IsSoundItem (done_in w) s = taken_sound (done_in w) lane w.lanes s others e sound.items in
-    let most : stamp ≤ done_in w + 1 = omega (arith, stamped, stamp_most (done_in w) w.actors reader s at there taken.0 sound.clocks) in
+    let m = made_from w.actors reader lane at s in
+    let own = stamp_most (done_in w) w.actors reader lane at s there taken.0 sound.clocks in
+    let most : stamp ≤ done_in w + 1 = omega (arith, stamped, own) in
     let kept : All (IsSoundLane (done_in w)) left =
     All-same (IsSoundLane (done_in w)) left (set w.lanes lane others) is (left_sound (done_in w) lane w.lanes s others e sound.items)
     in
-    sound_with w (done_in w + 1) lanes actors turns w.settles sound (len ∙ ap length is ∙ length-set w.lanes lane others) (ap length became ∙ length-after w.actors reader s at) (omega (arith, n))
+    sound_with w (done_in w + 1) lanes actors turns w.settles sound (len ∙ ap length is ∙ length-set w.lanes lane others) (ap length became ∙ length-after w.actors reader m) (omega (arith, n))
     (stay.sound (done_in w + 1) most (lanes_weaker (done_in w) (done_in w + 1) left (omega arith) kept))
-    (All-same (IsClockedBelow (done_in w + 1)) actors (actors_after w.actors reader s at) became (clocks_after (done_in w) w.actors reader s at there taken.0 sound.clocks))
+    (All-same (IsClockedBelow (done_in w + 1)) actors (actors_after w.actors reader m) became (clocks_after (done_in w) w.actors reader m own sound.clocks))
 
 new_clocks : (all : List Role) → All (IsClockedBelow 0) (map new_actor all)
 new_clocks all = All-map (IsClockedBelow 0) new_actor all (λ k d h. (omega arith, All-nil (IsAtMost 0)))
 
 -- the world before anything is done
 pub sound_start : (wires : List Wire) (all : List Role) (lanes : List (List Stamped)) (actors : List ActorState) (turns : List TurnDone) (settles : List SettleDone)
-    → length wires < 2 ^ 32 → All (IsReadBelow (length all)) wires → lanes ≡ replicate (length wires) [] → actors ≡ map new_actor all → turns ≡ [] → settles ≡ []
+    → length wires < 2 ^ 32 → All (JoinsBelow (length all)) wires → lanes ≡ replicate (length wires) [] → actors ≡ map new_actor all → turns ≡ [] → settles ≡ []
     → IsSound (record { wires = wires; lanes = lanes; actors = actors; turns = turns; settles = settles })
 sound_start wires all lanes actors turns settles few readers e h t s = record {
   wired = record {
     as_many = ap length e ∙ length-replicate (length wires) [];
-    readers = subst (λ n. All (IsReadBelow n) wires) (sym (ap length h ∙ length-map all new_actor)) readers;
+    ends = subst (λ n. All (JoinsBelow n) wires) (sym (ap length h ∙ length-map all new_actor)) readers;
   };
   few = few;
   items = subst (λ ls. All (IsSoundLane (length turns + length settles)) ls) (sym e) (All-replicate (IsSoundLane (length turns + length settles)) (length wires) [] (All-nil (IsSoundItem (length turns + length settles))));
@@ -135,9 +137,9 @@ driver_below n [] all = omega arith
 driver_below n (driver ∷ others) all = (All-head (IsClockedBelow n) driver others all).0
 
 -- the world after items are issued
-pub sound_issued : (w : WorldState) (stamp : ℕ) (lanes : List (List Stamped)) → IsSound w → stamp ≡ driver_clock w.actors → length lanes ≡ length w.lanes → StaySound stamp w.lanes lanes
+pub sound_issue : (w : WorldState) (stamp : ℕ) (lanes : List (List Stamped)) → IsSound w → stamp ≡ driver_clock w.actors → length lanes ≡ length w.lanes → StaySound stamp w.lanes lanes
     → IsSound (record { wires = w.wires; lanes = lanes; actors = w.actors; turns = w.turns; settles = w.settles })
-sound_issued w stamp lanes sound is len stay =
+sound_issue w stamp lanes sound is len stay =
     sound_with w (done_in w) lanes w.actors w.turns w.settles sound len refl refl
     (stay.sound (done_in w) (omega (arith, is, driver_below (done_in w) w.actors sound.clocks)) sound.items) sound.clocks
 
@@ -148,30 +150,27 @@ greatest_below n (actor ∷ actors) all =
     omega (arith, (All-head (IsClockedBelow n) actor actors all).0, greatest_below n actors (All-tail (IsClockedBelow n) actor actors all))
 
 -- the world in which desks gave their answers
-pub sound_given : (w : WorldState) (giving : List ActorState) (settles : List SettleDone) → IsSound w → StayClocked w.actors giving → length settles ≡ length w.settles
+pub sound_giving : (w : WorldState) (giving : List ActorState) (settles : List SettleDone) → IsSound w → StayClocked w.actors giving → length settles ≡ length w.settles
     → IsSound (record { wires = w.wires; lanes = w.lanes; actors = giving; turns = w.turns; settles = settles })
-sound_given w giving settles sound stay n =
+sound_giving w giving settles sound stay n =
     sound_with w (done_in w) w.lanes giving w.turns settles sound refl stay.len (omega (arith, n)) sound.items (stay.clocks (done_in w) sound.clocks)
 
-length-settled : (clock found : ℕ) (actors : List ActorState) → length (settled_actors clock found actors) ≡ length actors
-length-settled clock found [] = refl
-length-settled clock found (actor ∷ actors) = ap suc (length-settled clock (length (entries_of actor.part)) actors)
-
-clocks_settled : (most clock found : ℕ) (actors : List ActorState) → clock ≤ most → All (IsClockedBelow most) actors → All (IsClockedBelow most) (settled_actors clock found actors)
-clocks_settled most clock found [] h all = All-nil (IsClockedBelow most)
-clocks_settled most clock found (actor ∷ actors) h all =
-    All-cons (IsClockedBelow most) (settled_actor clock found actor) (settled_actors clock (length (entries_of actor.part)) actors)
+clocks_settled : (most clock : ℕ) (lengths : List ℕ) (actors : List ActorState) → clock ≤ most → All (IsClockedBelow most) actors
+    → All (IsClockedBelow most) (map (actor_after_settle clock lengths) actors)
+clocks_settled most clock lengths [] h all = All-nil (IsClockedBelow most)
+clocks_settled most clock lengths (actor ∷ actors) h all =
+    All-cons (IsClockedBelow most) (actor_after_settle clock lengths actor) (map (actor_after_settle clock lengths) actors)
     (h, (All-head (IsClockedBelow most) actor actors all).1)
-    (clocks_settled most clock (length (entries_of actor.part)) actors h (All-tail (IsClockedBelow most) actor actors all))
+    (clocks_settled most clock lengths actors h (All-tail (IsClockedBelow most) actor actors all))
 
 -- the world after a settle
-pub sound_settled : (w : WorldState) (clock : ℕ) (giving actors : List ActorState) (settles : List SettleDone) → IsSound w
-    → clock ≡ greatest_clock w.actors + 1 → StayClocked w.actors giving → actors ≡ settled_actors clock 0 giving → length settles ≡ length w.settles + 1
+pub sound_settle : (w : WorldState) (clock : ℕ) (giving actors : List ActorState) (settles : List SettleDone) → IsSound w
+    → clock ≡ greatest_clock w.actors + 1 → StayClocked w.actors giving → actors ≡ actors_after_settle clock giving → length settles ≡ length w.settles + 1
     → IsSound (record { wires = w.wires; lanes = w.lanes; actors = actors; turns = w.turns; settles = settles })
-sound_settled w clock giving actors settles sound is stay set_to n =
+sound_settle w clock giving actors settles sound is stay set_to n =
     let most = done_in w + 1 in
     let kept = clocks_weaker (done_in w) most giving (omega arith) (stay.clocks (done_in w) sound.clocks) in
-    sound_with w most w.lanes actors w.turns settles sound refl (ap length set_to ∙ length-settled clock 0 giving ∙ stay.len) (omega (arith, n))
+    sound_with w most w.lanes actors w.turns settles sound refl (ap length set_to ∙ length-map giving (actor_after_settle clock (journal_lengths giving)) ∙ stay.len) (omega (arith, n))
     (lanes_weaker (done_in w) most w.lanes (omega arith) sound.items)
-    (All-same (IsClockedBelow most) actors (settled_actors clock 0 giving) set_to
-    (clocks_settled most clock 0 giving (omega (arith, is, greatest_below (done_in w) w.actors sound.clocks)) kept))
+    (All-same (IsClockedBelow most) actors (actors_after_settle clock giving) set_to
+    (clocks_settled most clock (journal_lengths giving) giving (omega (arith, is, greatest_below (done_in w) w.actors sound.clocks)) kept))

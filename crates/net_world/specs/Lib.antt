@@ -1,4 +1,3 @@
-pub mod Ports
 pub mod Busy
 pub mod Settling
 pub mod Sound

@@ -4,7 +4,8 @@ use Rattle.or_actor.specs.Fits.{has_small_link}
 use Rattle.net_record.specs.declared.actor.ActorState.{ActorState}
 use Rattle.net_record.specs.World.{WorldState}
 use Rattle.net_record.specs.Wired.{IsWired}
-use Rattle.net_record.specs.Weight.{capped, weight_of}
+use Rattle.or_base.specs.Counting.{saturate}
+use Rattle.net_record.specs.Weight.{weight_of}
 
 -- the stamp is at most n, and a link that the item names has a number below 2^31
 abbrev pub IsSoundItem : ℕ → Stamped → Type 0
@@ -33,7 +34,7 @@ pub record StayClocked (before after : List ActorState) : Type 0 where
 abbrev pub done_in : WorldState → ℕ
 done_in w = length w.turns + length w.settles
 
--- Lanes and readers are there, lanes have 32-bit numbers, every stamp and clock is at most the turns and settles done,
+-- Lanes and their ends are there, lanes have 32-bit numbers, every stamp and clock is at most the turns and settles done,
 -- and every link that an item names has a small number. Each turn keeps this.
 pub record IsSound (w : WorldState) : Type 0 where
   pub wired : IsWired w
@@ -44,4 +45,4 @@ pub record IsSound (w : WorldState) : Type 0 where
 -- what a world keeps: it is sound, and it has the weight of its turns and settles
 pub record IsKept (w : WorldState) (weight : ℕ) : Type 0 where
   pub sound : IsSound w
-  pub weighed : weight ≡ capped (weight_of w.turns w.settles)
+  pub weighed : weight ≡ saturate (weight_of w.turns w.settles)

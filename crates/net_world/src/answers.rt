@@ -1,28 +1,37 @@
 //! The answers of a phase, in the order of its questions.
 
-ghost use Rattle.std.specs.Prelude.{◌≡◌, [], slice_index_or, slice_set, IfOk, OnOk};
-ghost use Rattle.net_record.specs.Actors.{no_actor};
-ghost use Rattle.net_record.specs.Answers.{answer_of, actor_without, give, given};
+ghost use Rattle.std.specs.Prelude.{◌≡◌, [], slice_set, option_map, IfOk, OnOk};
+ghost use Rattle.net_record.specs.Actors.{actor_at, answer_of, actor_without_question};
+ghost use Rattle.net_record.specs.Answers.{give, give_all};
 ghost use Rattle.net_world.specs.Sound.{StayClocked};
 
-use net_record::{ActorState, AnswerDone};
+use net_record::{ActorState, AnswerDone, answer_of};
 use or_base::NoMemory;
 use std::alloc::Global;
 
-/// Takes the oldest answer of an actor, if there is such an actor and such an answer.
-#[tactic(auto, using(crate::proofs::Clocked::without_nobody))]
-fn take_from(actors: &mut Vec<ActorState>, number: u32) -> Option<AnswerDone>
-    ensures answer { result ≡ answer_of (slice_index_or actors.old.items number no_actor).part }
-    ensures left { actors.new.items ≡ slice_set actors.old.items number (actor_without (slice_index_or actors.old.items number no_actor)) }
+/// The answer to the oldest question of an actor, if there is such an actor and it is a desk that has one.
+#[tactic(auto, using(crate::proofs::Clocked::nobody))]
+fn answer_at(actors: &[ActorState], number: u32) -> Result<Option<AnswerDone>, NoMemory>
+    ensures { IfOk result (λ answer. answer ≡ answer_of actors.now (actor_at actors.now number).part) }
 {
-    if actors.len() <= number as usize {
-        return None;
+    match actors.get(number as usize) {
+        Some(actor) => Ok(answer_of(actors, &actor.part)?),
+        None => Ok(None),
     }
-    let actor = &mut actors[number as usize];
-    actor.take_answer()
 }
 
-/// An actor gives its oldest answer, if it has one. Where memory runs out nothing is given.
+/// An actor forgets its oldest question, if there is such an actor and such a question. It takes no memory.
+#[tactic(auto, using(crate::proofs::Clocked::nobody))]
+fn forget_at(actors: &mut Vec<ActorState>, number: u32)
+    ensures { actors.new.items ≡ slice_set actors.old.items number (actor_without_question (actor_at actors.old.items number)) }
+{
+    if (number as usize) < actors.len() {
+        let actor = &mut actors[number as usize];
+        actor.forget();
+    }
+}
+
+/// An actor answers its oldest question, if it has one. Out of memory, nothing is answered.
 #[tactic(auto, unfolding(net_record::specs::Answers::give), using(crate::proofs::Clocked::clocked))]
 fn give(
     actors: &mut Vec<ActorState>,
@@ -34,13 +43,15 @@ fn give(
     ensures clocks { StayClocked actors.old.items actors.new.items }
 {
     answers.reserve(1)?;
-    if let Some(answer) = take_from(actors, number) {
+    let answer = answer_at(actors.as_slice(), number)?;
+    forget_at(actors, number);
+    if let Some(answer) = answer {
         answers.push_reserved(answer);
     }
     Ok(())
 }
 
-/// Each of these actors gives an answer.
+/// Each of these actors answers a question.
 #[tactic(auto, using(crate::proofs::Clocked::clocked))]
 pub fn give_all(
     alloc: Global,
@@ -48,7 +59,7 @@ pub fn give_all(
     numbers: &[u32],
 ) -> Result<Vec<AnswerDone>, NoMemory>
     ensures given { IfOk result (λ answers. record { actors = actors.new.items; answers = answers.items }
-        ≡ given (record { actors = actors.old.items; answers = [] }) numbers.now) }
+        ≡ give_all (record { actors = actors.old.items; answers = [] }) numbers.now) }
     ensures clocks { StayClocked actors.old.items actors.new.items }
 {
     let mut answers = Vec::new(alloc);

@@ -1,8 +1,10 @@
-ghost use Rattle.std.specs.Prelude.{◌≡◌};
-ghost use Rattle.net_record.specs.Actors.{settled_actors};
+ghost use Rattle.std.specs.Prelude.{◌≡◌, ◌-◌, ◌<◌, ◌^◌, map, slice_index_or, IfOk, OnOk, OnErr};
+ghost use Rattle.net_record.specs.Actors.{journal_lengths, actor_after_settle, actors_after_settle};
 ghost use Rattle.net_record.specs.World.{driver_clock, greatest_clock};
 
 use net_record::ActorState;
+use or_base::NoMemory;
+use std::alloc::Global;
 
 /// The clock of the driver, which is the first actor.
 pub fn driver_clock(actors: &[ActorState]) -> u64
@@ -25,16 +27,41 @@ pub fn greatest_clock(actors: &[ActorState]) -> u64
     greatest
 }
 
-/// A settle: it sets the clock of each actor, tells of the full syncs that each finished, and lets each desk see the whole
-/// journal of the store before it.
-pub fn settle_all(actors: &mut Vec<ActorState>, clock: u64)
-    ensures { actors.new.items ≡ settled_actors clock 0 actors.old.items }
+/// The lengths of the actors' journals, by their numbers.
+fn journal_lengths(alloc: Global, actors: &[ActorState]) -> Result<Vec<u64>, NoMemory>
+    ensures lengths { IfOk result (λ lengths. lengths.items ≡ journal_lengths actors.now) }
+    ensures small { IfOk result (λ lengths. (n : _) → slice_index_or lengths.items n 0 < 2 ^ 64 - 1) }
 {
-    let mut found = 0;
+    let mut lengths = Vec::new(alloc);
+    for actor in actors {
+        lengths.push(actor.part.entries().len() as u64)?;
+    }
+    Ok(lengths)
+}
+
+/// A settle of each actor, at which the journals have these lengths.
+
+fn settle_each(actors: &mut Vec<ActorState>, clock: u64, lengths: &[u64])
+    requires { (n : _) → slice_index_or lengths.now n 0 < 2 ^ 64 - 1 }
+    ensures { actors.new.items ≡ map (actor_after_settle clock lengths.now) actors.old.items }
+{
     for number in 0..actors.len() {
         let actor = &mut actors[number];
-        let entries = actor.part.entry_count() as u64;
-        actor.settle(clock, found);
-        found = entries;
+        actor.settle(clock, lengths);
     }
+}
+
+/// A settle: it sets the clock of each actor, tells of the full syncs that each finished, and lets each desk see the whole
+/// journal of its node's store. Out of memory, the actors stay as they were.
+pub fn settle_all(
+    alloc: Global,
+    actors: &mut Vec<ActorState>,
+    clock: u64,
+) -> Result<(), NoMemory>
+    ensures ok { OnOk result (actors.new.items ≡ actors_after_settle clock actors.old.items) }
+    ensures err { OnErr result (actors.new.items ≡ actors.old.items) }
+{
+    let lengths = journal_lengths(alloc, actors.as_slice())?;
+    settle_each(actors, clock, lengths.as_slice());
+    Ok(())
 }

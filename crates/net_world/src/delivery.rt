@@ -1,10 +1,10 @@
 ghost use Rattle.std.specs.Prelude.{◌≡◌, IsTrue, length, OnOk};
 ghost use Rattle.or_actor.specs.Fits.{has_small_link, have_small_links};
-ghost use Rattle.net_record.specs.World.{put, delivered};
+ghost use Rattle.net_record.specs.World.{put, deliver};
 ghost use Rattle.net_world.specs.Sound.{StaySound};
 
 use crate::lanes::Lanes;
-use crate::ports::Wiring;
+use net_record::Wiring;
 use or_actor::Output;
 use or_base::{NoMemory, Stamped};
 
@@ -30,7 +30,7 @@ pub fn deliver(
     outputs: Vec<Output>,
 ) -> Result<(), NoMemory>
     requires { IsTrue (have_small_links outputs.items) }
-    ensures ok { OnOk result (lanes.new ≡ delivered wiring.now writer stamp lanes.old outputs.items) }
+    ensures ok { OnOk result (lanes.new ≡ deliver wiring.now writer stamp lanes.old outputs.items) }
     ensures len { length lanes.new ≡ length lanes.old }
     ensures sound { StaySound stamp lanes.old lanes.new }
 {

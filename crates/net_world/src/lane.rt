@@ -54,7 +54,7 @@ impl Lane {
         self.items.front()
     }
 
-    /// The item waits behind the others. Where memory runs out the lane stays as it was.
+    /// The item waits behind the others. Out of memory the lane stays as it was.
     pub fn put(&mut self, item: Stamped) -> Result<(), NoMemory>
         ensures ok { OnOk result (self.new ≡ self.old ++ item ∷ []) }
         ensures err { OnErr result (self.new ≡ self.old) }

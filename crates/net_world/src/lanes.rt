@@ -2,7 +2,7 @@
 
 ghost use Rattle.std.specs.Prelude.{◌≡◌, ◌<◌, [], ◌∷◌, ◌++◌, IsTrue, not, replicate, drop, length, slice_index_or, slice_get, slice_set, IfOk, OnOk, OnErr};
 ghost use Rattle.std.specs.Option.{option_map};
-ghost use Rattle.net_world.specs.Busy.{AreBusy, busy_lanes, marked, unmarked};
+ghost use Rattle.net_world.specs.Busy.{AreBusy, busy_lanes, with_busy, without_busy};
 
 use crate::lane::Lane;
 use or_base::{NoMemory, Stamped};
@@ -51,7 +51,7 @@ fn empty_lanes(alloc: Global, count: usize) -> Result<Vec<Lane>, NoMemory>
 
 /// Counts a lane among those on which an item waits, where none did so far.
 fn mark(busy: &mut BTreeSet<u32>, lane: u32, was_empty: bool) -> Result<(), NoMemory>
-    ensures ok { OnOk result (busy.new.keys ≡ marked was_empty lane busy.old.keys) }
+    ensures ok { OnOk result (busy.new.keys ≡ with_busy was_empty lane busy.old.keys) }
     ensures err { OnErr result (busy.new.keys ≡ busy.old.keys) }
 {
     if was_empty {
@@ -62,7 +62,7 @@ fn mark(busy: &mut BTreeSet<u32>, lane: u32, was_empty: bool) -> Result<(), NoMe
 
 /// Counts it no longer, where no item waits on it now.
 fn unmark(busy: &mut BTreeSet<u32>, lane: u32, is_empty: bool)
-    ensures { busy.new.keys ≡ unmarked is_empty lane busy.old.keys }
+    ensures { busy.new.keys ≡ without_busy is_empty lane busy.old.keys }
 {
     if is_empty {
         let _was_busy = busy.remove(&lane);

@@ -4,7 +4,7 @@
 //! turns, issues and settles are exactly those of net_record's definitions. `round_robin` runs a scenario by rounds
 //! and gives the record of what was done, or the number of the first phase that is unsettled. A world keeps that it
 //! is sound (`specs/Sound.antt`): its lanes and readers are there, and each stamp and each clock is at most the turns
-//! and settles done. So every stamp fits, and beside an unsettled phase only want of memory ends a run early. It keeps the
+//! and settles done. So every stamp fits, and beside an unsettled phase only running out of memory ends a run early. It keeps the
 //! weight of what was done beside it, the ports of each writer (`specs/Ports.antt`) and the lanes on which an item waits
 //! (`specs/Busy.antt`), so that the time of a turn grows with none of them.
 //!
@@ -19,7 +19,6 @@ mod delivery;
 mod fault;
 mod lane;
 mod lanes;
-mod ports;
 mod rounds;
 mod start;
 mod world;
@@ -27,6 +26,5 @@ mod world;
 pub use fault::RunFault;
 pub use lane::Lane;
 pub use lanes::{Busy, Lanes};
-pub use ports::{Port, Wiring};
 pub use rounds::round_robin;
 pub use world::World;

@@ -18,12 +18,12 @@ use net_record::{
     Phase, Record, desks_asked, phases, rounds_are_a_run, settled_rounds_end_drained,
     settles_tell_stores,
 };
-use net_scenario::Scenario;
+use net_laboratory::Scenario;
 use or_base::NoMemory;
 use std::alloc::Global;
 use std::marker::Model;
 
-/// So many turns of a lane, or fewer where the budget is passed.
+/// So many turns of a lane, or fewer where the budget is exceeded.
 #[tactic(auto, using(crate::proofs::Rounding::turns_steps))]
 fn turns_on(world: &mut World, lane: usize, count: usize) -> Result<(), NoMemory>
     ensures { OnOk result (world.new ≡ turns_on world.old lane count) }
@@ -90,7 +90,7 @@ impl MarkedWorld {
         self.world.is_drained()
     }
 
-    /// The budget is passed.
+    /// The budget is exceeded.
     fn is_over(&self) -> bool
         ensures { result ≡ is_over self.now.world }
     {
@@ -106,7 +106,7 @@ impl MarkedWorld {
         Ok(())
     }
 
-    /// Rounds until no item waits or the budget is passed, at most so many.
+    /// Rounds until no item waits or the budget is exceeded, at most so many.
     #[tactic(auto, using(crate::proofs::Rounding::rounds_steps))]
     fn run_rounds(&mut self, count: u64) -> Result<(), NoMemory>
         ensures { OnOk result (self.new ≡ rounds_of self.old count) }

@@ -1,4 +1,4 @@
-ghost use Rattle.std.specs.Prelude.{◌≡◌, IsTrue, length, IfOk, OnOk};
+ghost use Rattle.std.specs.Prelude.{◌≡◌, ◌-◌, ◌<◌, ◌^◌, IsTrue, length, IfOk, OnOk};
 ghost use Rattle.or_actor.specs.Fits.{have_small_links};
 ghost use Rattle.net_record.specs.Records.{record_of};
 
@@ -7,19 +7,18 @@ use crate::answers::give_all;
 use crate::clocks::{driver_clock, greatest_clock, settle_all};
 use crate::delivery::deliver;
 use crate::lanes::{Busy, Lanes};
-use crate::ports::Wiring;
 use crate::start::new_actors;
 use net_record::{
-    ActorState, MOST_TURNS, MOST_WEIGHT, Record, Sent, SettleDone, add_item, add_settle,
+    ActorState, MOST_WEIGHT, Record, SettleDone, TurnOutputs, Wiring, add_item, add_settle,
     journals_of, longest, marks_of, roles, wires,
 };
-use net_scenario::Scenario;
+use net_laboratory::{MOST_TURNS, Scenario};
 use or_actor::Output;
 use or_base::{NoMemory, Seq, TurnDone};
 use std::alloc::Global;
 use std::marker::Model;
 
-/// Actors, the lanes among them, and what they have done with its weight. Where memory runs out in a call, the world is
+/// Actors, the lanes among them, and what they have done with its weight. Out of memory in a call, the world is
 /// spent.
 #[derive(Drop)]
 pub struct World {
@@ -44,7 +43,7 @@ impl Model for World {
 }
 
 impl World {
-    ghost use Rattle.net_record.specs.World.{start, is_drained, turn, issued, settled};
+    ghost use Rattle.net_record.specs.World.{start, is_drained, turn, issue, settle};
     ghost use Rattle.net_record.specs.Budget.{is_over};
     ghost use Rattle.net_record.specs.Rounds.{longest};
     ghost use Rattle.net_world.specs.Busy.{busy_lanes};
@@ -77,7 +76,7 @@ impl World {
         self.lanes.are_empty()
     }
 
-    /// The budget is passed: what was done weighs too much, or as many turns as may be were done and an item waits.
+    /// The budget is exceeded: what was done weighs too much, or as many turns as may be were done and an item waits.
     pub fn is_over(&self) -> bool
         ensures { result ≡ is_over self.now }
     {
@@ -86,12 +85,13 @@ impl World {
 
     /// The greatest length that the turn of a lane may find: for a question that of the store's journal, and else 0.
     pub fn longest(&self, lane: usize) -> u64
-        ensures { result ≡ longest self.now lane }
+        ensures longest { result ≡ longest self.now lane }
+        ensures small { result < 2 ^ 63 }
     {
         match self.lanes.front(lane) {
             Some(front) => {
-                let reader = self.wiring.reader(lane);
-                longest(self.actors.as_slice(), reader as usize, &front.item)
+                let reader = &self.actors[self.wiring.reader(lane) as usize];
+                longest(self.actors.as_slice(), &reader.part, &front.item)
             }
             None => 0,
         }
@@ -100,6 +100,7 @@ impl World {
     /// The turn of a lane: its reader takes the item that waits longest, and what it sends is put on the lanes of its
     /// ports. `at` is the length that a desk finds. Where no item waits on the lane, nothing is done.
     pub fn turn(&mut self, lane: usize, at: u64) -> Result<(), NoMemory>
+        requires { at < 2 ^ 64 - 1 }
         ensures { OnOk result (self.new ≡ turn self.old lane at) }
     {
         if self.lanes.is_lane_empty(lane) {
@@ -109,7 +110,14 @@ impl World {
         let reader = self.wiring.reader(lane);
         let taken = self.lanes.take(lane as u32);
         let item = taken.item.copied()?;
-        let Sent { stamp, outputs } = act(self.alloc, &mut self.actors, reader, taken, at)?;
+        let TurnOutputs { stamp, outputs } = act(
+            self.alloc,
+            &mut self.actors,
+            reader,
+            lane as u32,
+            taken,
+            at,
+        )?;
         let weight = add_item(self.weight, &item);
         self.weight = weight;
         self.turns.push_reserved(TurnDone {
@@ -125,7 +133,7 @@ impl World {
     /// A phase begins: the driver's items, by its ports, are put on its lanes with the driver's clock as their stamp.
     pub fn issue(&mut self, issues: Vec<Output>) -> Result<(), NoMemory>
         requires { IsTrue (have_small_links issues.items) }
-        ensures { OnOk result (self.new ≡ issued self.old issues.items) }
+        ensures { OnOk result (self.new ≡ issue self.old issues.items) }
     {
         let stamp = driver_clock(self.actors.as_slice());
         deliver(&self.wiring, &mut self.lanes, 0, stamp, issues)?;
@@ -135,12 +143,13 @@ impl World {
     /// A phase ends at a moment, in which these desks were asked: what its settle tells is recorded, with an answer of each in
     /// this order. Every clock becomes one more than the greatest, and every desk sees its store's journal.
     pub fn settle(&mut self, moment: u64, asked: &[u32]) -> Result<(), NoMemory>
-        ensures { OnOk result (self.new ≡ settled moment asked.now self.old) }
+        ensures { OnOk result (self.new ≡ settle moment asked.now self.old) }
     {
         let nodes = marks_of(self.alloc, self.actors.as_slice())?;
         let clock = greatest_clock(self.actors.as_slice()) + 1;
         self.settles.reserve(1)?;
         let answers = give_all(self.alloc, &mut self.actors, asked)?;
+        settle_all(self.alloc, &mut self.actors, clock)?;
         let done = SettleDone {
             turns: self.turns.len() as u64,
             moment,
@@ -150,7 +159,6 @@ impl World {
         let weight = add_settle(self.weight, &done);
         self.weight = weight;
         self.settles.push_reserved(done);
-        settle_all(&mut self.actors, clock);
         Ok(())
     }
 

@@ -3,9 +3,9 @@ use Rattle.std.proofs.Common.{[], ◌-◌, ◌^◌, drop, get_or, length, sym, a
 use Rattle.net_record.specs.World.{WorldState, turn}
 use Rattle.net_world.specs.Sound.{done_in}
 use Rattle.net_world.proofs.Acted.{clocks_weaker}
-use Rattle.net_world.proofs.Soundness.{within_waiting, taken_sound, reader_there, sound_left, sound_kept, sound_turned}
+use Rattle.net_world.proofs.Soundness.{within_waiting, taken_sound, reader_there, sound_left, sound_kept, sound_turn}
 use Rattle.net_world.proofs.Weighed.{weighs_turn}
-use Rattle.net_world.proofs.Turning.{turn_empty, turn_made}
+use Rattle.net_world.proofs.Turning.{turn_empty, turn_is_made}
 use Rattle.net_world.proofs.world.World.turn.Goals as goal
 
 pub returns-then-is_lane_empty : goal.returns-then-is_lane_empty
@@ -72,7 +72,7 @@ invariant_of-self-in_err-deliver c =
     let there = reader_there w c.args.lane c.reader-reader.result (record { writer = 0; port = 0; reader = 0 }) c.self.invariant.sound (within_waiting i.lanes c.args.lane (search rules)) (c.reader-reader.ensures (record { writer = 0; port = 0; reader = 0 })) in
     record {
       sound =
-          sound_turned w c.args.lane c.reader-reader.result c.take-taken.result (drop 1 (get_or i.lanes c.args.lane [])) c.take-taken.new.self c.deliver.new.lanes c.push_reserved.new.self.items
+          sound_turn w c.args.lane c.reader-reader.result c.take-taken.result (drop 1 (get_or i.lanes c.args.lane [])) c.take-taken.new.self c.deliver.new.lanes c.push_reserved.new.self.items
           c.act.new.actors.items c.args.at c.in_ok-stamp.stamp c.self.invariant.sound c.take-taken.ensures.front c.take-taken.ensures.left (search rules) there (search rules)
           (search rules) (search rules) (search rules);
       weighed =
@@ -87,7 +87,7 @@ invariant_of-self-2 c =
     let there = reader_there w c.args.lane c.reader-reader.result (record { writer = 0; port = 0; reader = 0 }) c.self.invariant.sound (within_waiting i.lanes c.args.lane (search rules)) (c.reader-reader.ensures (record { writer = 0; port = 0; reader = 0 })) in
     record {
       sound =
-          sound_turned w c.args.lane c.reader-reader.result c.take-taken.result (drop 1 (get_or i.lanes c.args.lane [])) c.take-taken.new.self c.deliver.new.lanes c.push_reserved.new.self.items
+          sound_turn w c.args.lane c.reader-reader.result c.take-taken.result (drop 1 (get_or i.lanes c.args.lane [])) c.take-taken.new.self c.deliver.new.lanes c.push_reserved.new.self.items
           c.act.new.actors.items c.args.at c.in_ok-stamp.stamp c.self.invariant.sound c.take-taken.ensures.front c.take-taken.ensures.left (search rules) there (search rules)
           (search rules) (search rules) (search rules);
       weighed =
@@ -101,7 +101,7 @@ returns c =
     let w : WorldState = record { wires = i.wiring; lanes = i.lanes; actors = i.actors.items; turns = i.turns.items; settles = i.settles.items } in
     let within = within_waiting i.lanes c.args.lane (search rules) in
     let there = reader_there w c.args.lane c.reader-reader.result (record { writer = 0; port = 0; reader = 0 }) c.self.invariant.sound within (c.reader-reader.ensures (record { writer = 0; port = 0; reader = 0 })) in
-    turn_made w c.args.lane c.args.at c.reader-reader.result (record { writer = 0; port = 0; reader = 0 }) c.take-taken.result (drop 1 (get_or i.lanes c.args.lane []))
+    turn_is_made w c.args.lane c.args.at c.reader-reader.result (record { writer = 0; port = 0; reader = 0 }) c.take-taken.result (drop 1 (get_or i.lanes c.args.lane []))
     c.in_ok-stamp.stamp c.in_ok-stamp.outputs.items c.in_ok-item.item c.act.new.actors.items c.take-taken.new.self c.deliver.new.lanes c.push_reserved.new.self.items
     (omega (arith, within, c.self.invariant.sound.wired.as_many)) (c.reader-reader.ensures (record { writer = 0; port = 0; reader = 0 })) c.take-taken.ensures.front there (search rules) (search rules) (search rules)
     (search rules) c.take-taken.ensures.left (search rules) (search rules)

@@ -1,0 +1,26 @@
+-- The kinds of modules: what each is made of, and its step. A new kind adds a row to `node_part` or to `new_part`, and to
+-- `module_step`; what a run wants to know of a kind it asks by a projection, in which every other kind has the default.
+use Rattle.std.specs.Prelude.{ℕ, List, Option, Some, None, Bool}
+use Rattle.or_base.specs.declared.item.Item.{Item}
+use Rattle.or_actor.specs.declared.output.Output.{Output}
+use Rattle.or_actor.specs.Steps.{finds_nothing}
+use Rattle.kv_store.specs.Store.{StoreState, new_store, store_step}
+use Rattle.net_link.specs.Link.{new_link, link_step}
+use Rattle.net_record.specs.declared.kinds.AnyModule.{AnyModule}
+use Rattle.net_record.specs.declared.kinds.AnyModule.TheVariants.{Store, Link}
+
+-- One turn of a module: its state after it, and what it sends. No module of any kind finds a length; desks do, and stand beside
+-- the modules.
+unfoldable pub module_step : AnyModule → ℕ → Item → AnyModule × List Output
+module_step (Store s) lane item = let after = store_step s item in (Store after.0, after.1)
+module_step (Link s) lane item = let after = link_step s item in (Link after.0, after.1)
+
+abbrev pub module_may_find : AnyModule → Item → ℕ → Bool
+module_may_find m item at = finds_nothing at
+
+-- ---- projections
+
+-- the store that a module is, if it is one
+abbrev pub store_in : AnyModule → Option StoreState
+store_in (Store s) = Some s
+store_in _ = None

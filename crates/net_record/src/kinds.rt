@@ -1,0 +1,61 @@
+//! The one room for the kinds of modules.
+
+ghost use Rattle.std.specs.Prelude.{◌≡◌, option_map};
+ghost use Rattle.net_record.specs.Kinds.{store_in};
+
+use kv_store::KvModule;
+use net_link::LinkModule;
+use or_actor::{Module, Outbox};
+use or_base::{Item, NoMemory};
+
+/// A module of any kind that implements `Module`.
+#[derive(Drop)]
+pub enum AnyModule {
+    /// A node's store.
+    Store(KvModule),
+    /// A link.
+    Link(LinkModule),
+}
+
+impl AnyModule {
+    /// The store that it is, if it is one. It takes no memory.
+    pub fn store(&self) -> Option<&KvModule>
+        ensures { option_map (λ s. s.now) result ≡ store_in self.now }
+    {
+        match self {
+            AnyModule::Store(store) => Some(store),
+            _other => None,
+        }
+    }
+}
+
+impl Module for AnyModule {
+    ghost use Rattle.or_actor.specs.Fits.{has_small_link};
+    ghost use Rattle.net_record.specs.declared.kinds.AnyModule.{AnyModule};
+    ghost use Rattle.net_record.specs.Kinds.{module_step, module_may_find};
+
+    ghost State = { AnyModule };
+
+    ghost state = { λ m. m };
+
+    ghost may_take = { λ s item. has_small_link item };
+
+    ghost may_find = { module_may_find };
+
+    ghost step = { λ m lane item at. module_step m lane item };
+
+    fn fits(&self, item: &Item) -> bool {
+        match self {
+            AnyModule::Store(store) => store.fits(item),
+            AnyModule::Link(link) => link.fits(item),
+        }
+    }
+
+    #[tactic(auto, unfolding(crate::specs::Kinds::module_step))]
+    fn turn(&mut self, lane: u32, item: Item, out: &mut Outbox) -> Result<u64, NoMemory> {
+        match self {
+            AnyModule::Store(store) => store.turn(lane, item, out),
+            AnyModule::Link(link) => link.turn(lane, item, out),
+        }
+    }
+}
