@@ -1,6 +1,6 @@
 ghost use Rattle.std.specs.Prelude.{◌≡◌, ◌++◌, ◌∷◌, [], length, IfOk, OnOk, OnErr};
 
-use crate::expiry::{Due, deadlines_due};
+use crate::expiry::{Deadline, deadlines_due};
 use crate::offered::Offered;
 use kv_value::compare;
 use or_base::{Held, JournalEntry, Key, NoMemory, Origin, Pair, held_under, is_valid_pair};
@@ -92,12 +92,13 @@ impl KvTable {
         let lost = deadlines_due(self.alloc(), self.entries.as_slice(), now)?;
         let count = lost.len() as u64;
         self.entries.reserve(lost.len())?;
-        for Due { key, .. } in lost {
+        for Deadline { key, .. } in lost {
             self.entries
                 .push_reserved(JournalEntry::Expired { key, at: now });
         }
         Ok(count)
     }
+
     /// Loses all that is held, as a store that restarts at the moment `now` does. Where memory runs out the table stays
     /// as it was.
     pub fn clear(&mut self, now: u64) -> Result<(), NoMemory>
