@@ -1,4 +1,6 @@
-use crate::{flood_message, flood_target};
+//! Floods: to whom they go, and what they say.
+
+use kv_flood::{flood_message, flood_target};
 use kv_table::{KvTable, Offered};
 use or_base::{Bytes, Key, KvValue, Msg, Name, Origin, Pair};
 use std::alloc::{AllocError, Global};
