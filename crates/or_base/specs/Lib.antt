@@ -6,3 +6,6 @@ pub mod Stream
 pub mod Prefix
 pub mod Prefixes
 pub mod Memory
+pub mod Counting
+pub mod ByLink
+pub mod Names

@@ -61,7 +61,7 @@ pub use route::{Delta, Route};
 pub use seq::{Seq, copied_items};
 pub use session::SyncDone;
 pub use stream::{ReadFault, Sink, Source, WriteFault};
-pub use text::{Bytes, Key, Name};
+pub use text::{Bytes, Key, Name, is_among};
 pub use value::{KvValue, Pair};
 
 /// The law of offers. After a list of offers, what is held under a key is the greatest of what was held and of

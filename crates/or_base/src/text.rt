@@ -1,4 +1,5 @@
 ghost use Rattle.std.specs.Prelude.{◌≡◌, IfOk, string_bytes};
+ghost use Rattle.or_base.specs.Names.{is_among};
 
 use crate::memory::{Copied, NoMemory};
 use std::marker::Model;
@@ -46,6 +47,14 @@ impl Copied for Name {
     fn copied(&self) -> Result<Self, NoMemory> {
         Name::copied(self)
     }
+}
+
+/// The name is one of these.
+pub fn is_among(name: &Name, names: &[Name]) -> bool
+    ensures { result ≡ is_among name.now names.now }
+{
+    let name = name.as_str();
+    names.iter().any(|other| name == other.as_str())
 }
 
 /// The key of a value: text that contracts see as its bytes.
