@@ -1,7 +1,7 @@
 -- A session's number is never used again.
 use Rattle.std.specs.Prelude.{ℕ, ◌+◌, ◌^◌, ◌<◌, List, [], ◌∷◌, length}
 use Rattle.kv_sync.specs.declared.session.SyncPhase.TheVariants.{Dumped, Pushed}
-use Rattle.kv_sync.specs.Sessions.{SessionsState, no_sessions, session_on, without_session, without_sessions, capped, started, current, after_reply, after_ack, after_push}
+use Rattle.kv_sync.specs.Sessions.{SessionsState, no_sessions, session_on, without_session, without_sessions, saturate, with_started_session, current, after_reply, after_ack, after_push}
 use Rattle.kv_sync.specs.Running.{AreNumbered}
 
 -- what can be done with the sessions of a store
@@ -18,7 +18,7 @@ pub data Step : Type 0 where
   drop_all : Step
 
 abbrev pub after_step : SessionsState → Step → SessionsState
-after_step s (start link peer a0) = started s link peer a0
+after_step s (start link peer a0) = with_started_session s link peer a0
 after_step s (reply link number b0 withheld) = after_reply s link b0 withheld (current s link number Dumped)
 after_step s (push link withheld) = after_push s link withheld (session_on s link)
 after_step s (ack link number) = after_ack s link (current s link number Pushed)
@@ -31,7 +31,7 @@ after_steps s (step ∷ steps) = after_steps (after_step s step) steps
 
 -- the number of the session that a step starts, if it starts one, and then these
 abbrev pub with_number : SessionsState → Step → List ℕ → List ℕ
-with_number s (start link peer a0) later = capped (s.last + 1) ∷ later
+with_number s (start link peer a0) later = saturate (s.last + 1) ∷ later
 with_number s (reply link number b0 withheld) later = later
 with_number s (push link withheld) later = later
 with_number s (ack link number) later = later

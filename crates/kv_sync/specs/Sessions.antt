@@ -10,8 +10,8 @@ use Rattle.kv_sync.specs.declared.session.Session.{Session}
 use Rattle.kv_sync.specs.declared.session.Stale.{Stale}
 
 -- a number that stands still at the end of 64 bits
-abbrev pub capped : ℕ → ℕ
-capped n = min n (2 ^ 64 - 1)
+abbrev pub saturate : ℕ → ℕ
+saturate n = min n (2 ^ 64 - 1)
 
 -- The number of the session that was started last, and the running session of each link that has one, in the order of
 -- links.
@@ -39,10 +39,10 @@ abbrev pub without_sessions : SessionsState → SessionsState
 without_sessions s = record { last = s.last; running = [] }
 
 -- A session with the next number takes the place of the link's session. a0 is the length of the starter's journal.
-unfoldable pub started : SessionsState → ℕ → List ℕ → ℕ → SessionsState
-started s link peer a0 = record {
-  last = capped (s.last + 1);
-  running = insert_entry nat_cmp s.running link (record { number = capped (s.last + 1); peer = peer; a0 = a0; b0 = 0; withheld = 0; phase = Dumped });
+unfoldable pub with_started_session : SessionsState → ℕ → List ℕ → ℕ → SessionsState
+with_started_session s link peer a0 = record {
+  last = saturate (s.last + 1);
+  running = insert_entry nat_cmp s.running link (record { number = saturate (s.last + 1); peer = peer; a0 = a0; b0 = 0; withheld = 0; phase = Dumped });
 }
 
 abbrev pub same_phase : SyncPhase → SyncPhase → Bool
@@ -73,12 +73,12 @@ current s link number phase = current_of (session_on s link) number phase
 
 -- A session that has met its reply: it is in the second phase, with the length of the peer's journal and the number of
 -- pairs that the peer withheld.
-abbrev pub pushed : Session → ℕ → ℕ → Session
-pushed session b0 withheld = record session { b0 = b0; withheld = withheld; phase = Pushed }
+abbrev pub session_after_reply : Session → ℕ → ℕ → Session
+session_after_reply session b0 withheld = record session { b0 = b0; withheld = withheld; phase = Pushed }
 
 -- a session of which so many more pairs were withheld
-abbrev pub withholding : Session → ℕ → Session
-withholding session more = record session { withheld = capped (session.withheld + more) }
+abbrev pub with_more_withheld : Session → ℕ → Session
+with_more_withheld session more = record session { withheld = saturate (session.withheld + more) }
 
 -- a finished session
 abbrev pub done_of : ℕ → Session → SyncDone
@@ -87,7 +87,7 @@ done_of link session =
 
 -- after a reply: the session goes on, or nothing changes
 abbrev pub after_reply : SessionsState → ℕ → ℕ → ℕ → Result Session Stale → SessionsState
-after_reply s link b0 withheld (Ok session) = with_session s link (pushed session b0 withheld)
+after_reply s link b0 withheld (Ok session) = with_session s link (session_after_reply session b0 withheld)
 after_reply s link b0 withheld (Err stale) = s
 
 -- after an acknowledgement: the session is over, or nothing changes
@@ -98,4 +98,4 @@ after_ack s link (Err stale) = s
 -- after a push: the withheld pairs count
 abbrev pub after_push : SessionsState → ℕ → ℕ → Option Session → SessionsState
 after_push s link withheld None = s
-after_push s link withheld (Some session) = with_session s link (withholding session withheld)
+after_push s link withheld (Some session) = with_session s link (with_more_withheld session withheld)
