@@ -5,9 +5,10 @@ use Rattle.std.specs.BTreeMap.{is_at}
 use Rattle.std.specs.Map.{remove_entry}
 use Rattle.kv_sync.specs.declared.session.SyncPhase.{SyncPhase}
 use Rattle.kv_sync.specs.declared.session.SyncPhase.TheVariants.{Dumped, Pushed}
+use Rattle.or_base.specs.Counting.{saturate}
 use Rattle.kv_sync.specs.declared.session.Session.{Session}
 use Rattle.kv_sync.specs.declared.session.Stale.{Stale}
-use Rattle.kv_sync.specs.Sessions.{SessionsState, no_sessions, session_on, saturate, with_started_session, current, current_if, current_of, is_in, session_after_reply, with_more_withheld, after_reply, after_ack, after_push}
+use Rattle.kv_sync.specs.Sessions.{SessionsState, no_sessions, session_on, with_started_session, current, current_if, current_of, is_in, session_after_reply, with_more_withheld, after_reply, after_ack, after_push}
 use Rattle.kv_sync.specs.Running.{AreNumbered}
 use Rattle.kv_sync.specs.Law.{Step, start, reply, push, ack, drop_link, drop_all, after_step, after_steps, numbers_given, RiseFrom, NumbersAreNew}
 use Rattle.kv_sync.proofs.Numbers.{numbered_none, numbered_started, numbered_kept, numbered_without}

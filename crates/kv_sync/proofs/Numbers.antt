@@ -8,8 +8,8 @@ use Rattle.std.specs.declared.cmp.Ordering.{Ordering}
 use Rattle.std.specs.declared.cmp.Ordering.TheVariants.{Less, Equal, Greater}
 use Rattle.std.specs.BTreeMap.{insert_entry, is_at}
 use Rattle.std.proofs.lemmas.Cmp.{ranked}
+use Rattle.or_base.specs.Counting.{saturate}
 use Rattle.kv_sync.specs.declared.session.Session.{Session}
-use Rattle.kv_sync.specs.Sessions.{saturate}
 use Rattle.kv_sync.specs.Running.{IsGiven, IsApart, AreApart, AreNumbered}
 
 -- no session of the entries has this number

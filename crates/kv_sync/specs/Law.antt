@@ -1,7 +1,8 @@
--- A session's number is never used again.
+-- A session's number isn't used again, until the counter of numbers saturates.
 use Rattle.std.specs.Prelude.{ℕ, ◌+◌, ◌^◌, ◌<◌, List, [], ◌∷◌, length}
 use Rattle.kv_sync.specs.declared.session.SyncPhase.TheVariants.{Dumped, Pushed}
-use Rattle.kv_sync.specs.Sessions.{SessionsState, no_sessions, session_on, without_session, without_sessions, saturate, with_started_session, current, after_reply, after_ack, after_push}
+use Rattle.kv_sync.specs.Sessions.{SessionsState, no_sessions, session_on, without_session, without_sessions, with_started_session, current, after_reply, after_ack, after_push}
+use Rattle.or_base.specs.Counting.{saturate}
 use Rattle.kv_sync.specs.Running.{AreNumbered}
 
 -- what can be done with the sessions of a store
@@ -49,7 +50,8 @@ RiseFrom last [] = Unit {0}
 RiseFrom last (number ∷ numbers) = (last < number) × RiseFrom number numbers
 
 pub record NumbersAreNew : Type 0 where
-  -- from any sessions on, numbers that are given rise from the one that was given last, as long as they are within 64 bits
+  -- From any sessions on: as long as the last number and the starts that follow come to less than 2^64, each start gives a number above
+  -- all that were given before it. A counter that saturates repeats its last number.
   pub rise : (s : SessionsState) (steps : List Step) → s.last + length (numbers_given s steps) < 2 ^ 64 → RiseFrom s.last (numbers_given s steps)
-  -- the sessions that run at any time have numbers that were given, and as long as the last is within 64 bits no two have the same
+  -- The sessions that run at any time have numbers that were given; as long as the last number is below 2^64 - 1, no two have the same.
   pub apart : (steps : List Step) → AreNumbered (after_steps no_sessions steps).last (after_steps no_sessions steps).running

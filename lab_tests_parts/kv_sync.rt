@@ -1,6 +1,6 @@
-ghost use Rattle.std.specs.Prelude.{◌≡◌, ◌<◌, ◌+◌, ◌^◌, OnOk};
+//! Full syncs: how a digest differs from a table, the messages, and the sessions that run.
 
-use crate::{Difference, Sessions, Stale, SyncPhase, ack, diff, reply_to};
+use kv_sync::{Difference, Sessions, Stale, SyncPhase, ack, diff, reply_to};
 use kv_table::KvTable;
 use kv_value::hash_of;
 use or_base::{Bytes, DigestRow, Key, KvValue, Msg, Name, Origin, Pair};
@@ -187,7 +187,7 @@ fn dropped_sessions_are_stale(rt: HostRuntime) -> Result<(), Fail> {
 
 /// The peer withheld 2 pairs, and this store withholds y at 9 ms.
 #[test]
-#[tactic(auto, unfolding(crate::specs::Sessions::started, crate::specs::Sessions::current))]
+#[tactic(auto, unfolding(kv_sync::specs::Sessions::with_started_session, kv_sync::specs::Sessions::current))]
 fn what_is_withheld_counts(rt: HostRuntime) -> Result<(), Fail> {
     let alloc = rt.alloc();
     let mut table = KvTable::new(alloc)?;
