@@ -1,8 +1,8 @@
 use or_base::{DigestRow, Key, Name, Seq};
 
-/// What a turn has to answer, beside what it floods.
+/// What a turn has to respond with, beside what it floods.
 #[derive(Drop)]
-pub enum Due {
+pub enum Response {
     Nothing,
     /// A full sync is to start with the peer of a link, if it has one.
     Start {
@@ -28,9 +28,10 @@ pub enum Due {
     },
 }
 
-/// What is left of a turn once its item is taken: what it has to answer, and the nodes that what it floods has passed.
+/// What is left of a turn once its item is taken: what it has to respond with, and the nodes that the flood of what the item
+/// brought has passed.
 #[derive(Drop)]
 pub struct Remaining {
-    pub due: Due,
+    pub response: Response,
     pub passed: Seq<Name>,
 }
