@@ -21,6 +21,7 @@ use Rattle.kv_sync.specs.declared.session.SyncPhase.TheVariants.{Dumped}
 use Rattle.kv_sync.specs.Sessions.{SessionsState, session_on, current, session_after_reply, with_started_session}
 use Rattle.kv_sync.specs.Running.{may_push}
 use Rattle.kv_sync.specs.Messages.{dump_message, reply_message, push_message, ack_message}
+use Rattle.kv_sync.proofs.Onward.{at_link-with_link}
 use Rattle.kv_store.specs.declared.response.Response.{Response}
 use Rattle.kv_store.specs.declared.response.Response.TheVariants.{Nothing, Start, StartAll, Reply, Push, Ack}
 use Rattle.kv_store.specs.Response.{is_on_small_link}
@@ -83,22 +84,9 @@ is_on_small_link-item s _ small = refl
 
 -- ---- a push
 
-same_number : (n : ℕ) → nat_cmp n n ≡ Equal
-same_number n = rw (le-ltb n n (omega arith), eq-eqb n n refl) refl
-
-found_inserted : (link : ℕ) (s : Session) (es : List (ℕ × Session)) → at_link (with_link es link s) link ≡ Some s
-found_inserted link s [] = rw (same_number link) refl
-found_inserted link s (e ∷ es) = by_order (found_inserted link s es) (nat_cmp link e.0) refl where
-  by_order : at_link (with_link es link s) link ≡ Some s
-      → (o : Ordering) → nat_cmp link e.0 ≡ o
-      → at_link (match_ordering o ((link, s) ∷ e ∷ es) ((e.0, s) ∷ es) (e ∷ with_link es link s)) link ≡ Some s
-  by_order later Less is = rw (same_number link) refl
-  by_order later Equal is = rw is refl
-  by_order later Greater is = rw is later
-
 reply_arrived : (s : StoreState) (link b0 : ℕ) (pairs : List Pair) (wanted : List (List ℕ)) (withheld : ℕ) (running : Result Session Stale)
     → may_respond (store_after_reply s link b0 pairs withheld running) (response_to_reply link wanted running) ≡ true
-reply_arrived s link b0 pairs wanted withheld (Ok session) = ap may_push (found_inserted link (session_after_reply session b0 withheld) s.sessions.running)
+reply_arrived s link b0 pairs wanted withheld (Ok session) = ap may_push (at_link-with_link link (session_after_reply session b0 withheld) s.sessions.running)
 reply_arrived s link b0 pairs wanted withheld (Err stale) = refl
 
 message_arrived : (s : StoreState) (link : ℕ) (from : List ℕ) (msg : Msg) → may_respond (message_change s link from msg).store (message_change s link from msg).response ≡ true

@@ -59,7 +59,7 @@ rise s (drop_all ∷ steps) fits = rise (record { last = s.last; running = [] })
 
 -- ---- numbers of their own
 
-found_where_current : (running : Option Session) (number : ℕ) (phase : SyncPhase) (t : Session) → current_of running number phase ≡ Ok t → running ≡ Some t
+pub found_where_current : (running : Option Session) (number : ℕ) (phase : SyncPhase) (t : Session) → current_of running number phase ≡ Ok t → running ≡ Some t
 found_where_current None number phase t is = absurd (err_not_ok is) where
   err_not_ok : {e : Stale} → Err e ≡ Ok t → ⊥
   err_not_ok same = cc

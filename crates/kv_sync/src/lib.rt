@@ -11,7 +11,8 @@
 //! The promises are that `diff` gives exactly the lists of `specs/Difference.antt` and every message is that of
 //! `specs/Messages.antt`, over the table's journal; that each call does what `specs/Sessions.antt` defines, and is stale
 //! exactly there; and that a session's number isn't used again (`numbers_are_new`): until the counter saturates, numbers
-//! rise with each start, and no two running sessions share one.
+//! rise with each start, and no two running sessions share one; and that a running session goes from Dumped to Pushed
+//! and ends as said (`sessions_go_on`).
 //!
 //! This is the plain body: `diff` looks for the row of each key from the front, and hashes a held value at most once for
 //! each list.
@@ -20,7 +21,7 @@
 //! data), `sessions` (those that run).
 #![tactic(auto)]
 
-ghost use Rattle.kv_sync.specs.Law.{NumbersAreNew};
+ghost use Rattle.kv_sync.specs.Law.{NumbersAreNew, SessionsGoOn};
 
 mod difference;
 mod messages;
@@ -37,4 +38,11 @@ pub use sessions::Sessions;
 /// one.
 pub fn numbers_are_new()
     ensures { NumbersAreNew }
+{}
+
+/// The law of sessions: whatever is done, a running session keeps its number, its peer and the length of its starter's
+/// journal, and goes from Dumped to Pushed and not back, until it ends. It ends by an acknowledgement that arrives for it
+/// once it is Pushed, as its link or all links are dropped, and as a new one takes its place.
+pub fn sessions_go_on()
+    ensures { SessionsGoOn }
 {}
