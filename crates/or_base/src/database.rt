@@ -6,7 +6,7 @@ use crate::seq::Seq;
 use crate::text::Name;
 
 /// A neighbour that a node reports, over one of its interfaces.
-#[derive(Drop)]
+#[derive(Clone, Drop)]
 pub struct Adjacency {
     pub other: Name,
     pub own_if: Name,
@@ -22,13 +22,7 @@ impl Adjacency {
     pub fn copied(&self) -> Result<Self, NoMemory>
         ensures { IfOk result (λ copy. copy ≡ self.now) }
     {
-        Ok(Adjacency {
-            other: self.other.copied()?,
-            own_if: self.own_if.copied()?,
-            other_if: self.other_if.copied()?,
-            metric: self.metric,
-            overload: self.overload,
-        })
+        Ok(self.clone()?)
     }
 }
 
@@ -39,7 +33,7 @@ impl Copied for Adjacency {
 }
 
 /// A node's link record.
-#[derive(Drop)]
+#[derive(Clone, Drop)]
 pub struct AdjDb {
     pub node: Name,
     /// The node carries no transit traffic.
@@ -53,11 +47,7 @@ impl AdjDb {
     pub fn copied(&self) -> Result<Self, NoMemory>
         ensures { IfOk result (λ copy. copy ≡ self.now) }
     {
-        Ok(AdjDb {
-            node: self.node.copied()?,
-            overload: self.overload,
-            adjacencies: self.adjacencies.copied()?,
-        })
+        Ok(self.clone()?)
     }
 }
 
@@ -95,7 +85,7 @@ impl Copied for PrefixEntry {
 }
 
 /// A node's prefix record.
-#[derive(Drop)]
+#[derive(Clone, Drop)]
 pub struct PrefixDb {
     pub node: Name,
     /// At most 32.
@@ -107,10 +97,7 @@ impl PrefixDb {
     pub fn copied(&self) -> Result<Self, NoMemory>
         ensures { IfOk result (λ copy. copy ≡ self.now) }
     {
-        Ok(PrefixDb {
-            node: self.node.copied()?,
-            entries: self.entries.copied()?,
-        })
+        Ok(self.clone()?)
     }
 }
 

@@ -4,7 +4,7 @@ use crate::memory::{Copied, NoMemory};
 use crate::text::Name;
 
 /// A full sync that was finished, as its starter tells it.
-#[derive(Drop)]
+#[derive(Clone, Drop)]
 pub struct SyncDone {
     pub link: u32,
     /// The node at the other end.
@@ -24,14 +24,7 @@ impl SyncDone {
     pub fn copied(&self) -> Result<Self, NoMemory>
         ensures { IfOk result (λ copy. copy ≡ self.now) }
     {
-        Ok(SyncDone {
-            link: self.link,
-            peer: self.peer.copied()?,
-            session: self.session,
-            a0: self.a0,
-            b0: self.b0,
-            withheld: self.withheld,
-        })
+        Ok(self.clone()?)
     }
 }
 
