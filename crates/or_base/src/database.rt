@@ -11,7 +11,7 @@ pub struct Adjacency {
     pub other: Name,
     pub own_if: Name,
     pub other_if: Name,
-    /// 1 to 2^31 - 1.
+    /// 1 to `MOST_METRIC`.
     pub metric: u32,
     /// The link takes no traffic.
     pub overload: bool,
@@ -38,7 +38,7 @@ pub struct AdjDb {
     pub node: Name,
     /// The node carries no transit traffic.
     pub overload: bool,
-    /// At most 24.
+    /// At most `MOST_ADJACENCIES`.
     pub adjacencies: Seq<Adjacency>,
 }
 
@@ -57,7 +57,8 @@ impl Copied for AdjDb {
     }
 }
 
-/// A prefix that a node advertises, with what selection compares. The numbers are 0 to 2^31 - 1.
+/// A prefix that a node advertises, with what selection compares. The numbers are 0 to
+/// `MOST_PREFERENCE`.
 #[derive(Clone, Copy, Debug, PartialEq, Eq)]
 pub struct PrefixEntry {
     pub prefix: Prefix,
@@ -88,7 +89,7 @@ impl Copied for PrefixEntry {
 #[derive(Clone, Drop)]
 pub struct PrefixDb {
     pub node: Name,
-    /// At most 32.
+    /// At most `MOST_PREFIX_ENTRIES`.
     pub entries: Seq<PrefixEntry>,
 }
 

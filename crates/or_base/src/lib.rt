@@ -46,10 +46,12 @@ pub use digest::DigestRow;
 pub use entry::JournalEntry;
 pub use held::Held;
 pub use item::{Item, Stamped, TurnDone};
-pub use journal::{add_key, held_keys, held_under};
+pub use journal::{held_keys, held_under, insert_key};
 pub use kind::Kind;
 pub use limits::{
-    has_key_bytes, has_name_bytes, is_interface_name, is_key, is_node_name, is_valid_pair,
+    MOST_ADJACENCIES, MOST_INTERFACE_NAME_BYTES, MOST_KEY_BYTES, MOST_LIFETIME, MOST_METRIC,
+    MOST_NODE_NAME_BYTES, MOST_PREFERENCE, MOST_PREFIX_ENTRIES, MOST_TTL_VERSION, MOST_VALUE_BYTES,
+    MOST_VERSION, has_key_bytes, has_name_bytes, is_interface_name, is_key, is_node_name, is_valid_pair,
 };
 pub use memory::{Copied, NoMemory};
 pub use memory_stream::{MemSink, MemSource, SINK_BYTES};

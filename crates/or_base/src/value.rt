@@ -6,15 +6,15 @@ use crate::text::{Bytes, Key, Name};
 /// A value of a store, with what orders it and how long it lives.
 #[derive(Clone, Drop)]
 pub struct KvValue {
-    /// From 1 to 2^62. The greater version wins.
+    /// From 1 to `MOST_VERSION`. The greater version wins.
     pub version: u64,
     /// The node that made the value.
     pub originator: Name,
-    /// 0 to 4,096 bytes.
+    /// At most `MOST_VALUE_BYTES` bytes.
     pub value: Bytes,
-    /// The time to live in milliseconds, from 1 to 2^40; None means for ever.
+    /// The time to live in milliseconds, from 1 to `MOST_LIFETIME`; None means for ever.
     pub ttl: Option<u64>,
-    /// From 0 to 2^62. It rises with each refresh of the lifetime.
+    /// From 0 to `MOST_TTL_VERSION`. It rises with each refresh of the lifetime.
     pub ttl_version: u64,
 }
 
