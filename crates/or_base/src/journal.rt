@@ -14,7 +14,7 @@ use std::cmp::Ordering;
 /// What a store with this journal holds under a key: the first entry from the end that is Cleared or names the
 /// key decides. It takes no memory.
 #[tactic(auto, using(crate::proofs::Offers::holds_push))]
-pub fn held_under<'a>(journal: &'a [JournalEntry], key: &Key) -> Option<Held<'a>>
+pub fn holds<'a>(journal: &'a [JournalEntry], key: &Key) -> Option<Held<'a>>
     ensures { option_map (λ held. (held.value.now, held.merged_at)) result ≡ holds journal.now key.now }
 {
     let mut left = journal;
@@ -79,7 +79,7 @@ pub fn held_keys(alloc: Global, journal: &[JournalEntry]) -> Result<Vec<Key>, No
 {
     let mut held = Vec::new(alloc);
     for key in merged_keys(alloc, journal)? {
-        if held_under(journal, &key).is_some() {
+        if holds(journal, &key).is_some() {
             held.push(key)?;
         }
     }

@@ -34,7 +34,7 @@ impl Prefix {
     }
 
     /// The two are the same.
-    pub fn is_same(&self, other: &Prefix) -> bool
+    pub fn is_same_prefix(&self, other: &Prefix) -> bool
         ensures { result ≡ is_same_prefix self.now other.now }
     {
         self == other

@@ -15,7 +15,7 @@ pub struct SyncDone {
     pub a0: u64,
     /// The length of the peer's journal when its reply was made.
     pub b0: u64,
-    /// How many pairs were withheld for want of lifetime.
+    /// How many pairs were withheld because too little of their lifetime was left.
     pub withheld: u64,
 }
 
