@@ -1,5 +1,5 @@
-use crate::fault::PrefixFault::{self, BadForm, BadLength, HostBits};
-use crate::{print_prefix, read_prefix};
+use or_prefix::PrefixFault::{self, BadForm, BadLength, HostBits};
+use or_prefix::{prefix_text, read_prefix};
 use std::test::Fail;
 
 /// Texts, and what each prints as once it is read, or why it is no prefix.
@@ -47,7 +47,7 @@ fn reads_and_prints_prefixes(rt: HostRuntime) -> Result<(), Fail> {
     for (text, want) in CASES {
         match read_prefix(text.as_bytes()) {
             Ok(prefix) => {
-                let printed = print_prefix(alloc, &prefix)?;
+                let printed = prefix_text(alloc, &prefix)?;
                 assert_eq!(rt;
                     Ok(printed.as_slice()),
                     want.map(|w| w.as_bytes()),

@@ -1,7 +1,7 @@
 use Rattle.std.proofs.Common.{arith}
 use Rattle.std.proofs.lemmas.Grind.{common_steps}
 use Rattle.or_prefix.proofs.Joins.{v6_no_before, v6_no_behind, v6_joined}
-use Rattle.or_prefix.proofs.v6.read_v6.Goals as goal
+use Rattle.or_prefix.proofs.v6.v6_address.Goals as goal
 
 pub returns-in_err-before-in-Some : goal.returns-in_err-before-in-Some
 returns-in_err-before-in-Some c =

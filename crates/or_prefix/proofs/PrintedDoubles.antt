@@ -7,9 +7,9 @@ use Rattle.std.specs.Fmt.{digits}
 use Rattle.std.proofs.lemmas.Bool.{and_parts, and_from, ltb-true}
 use Rattle.std.proofs.lemmas.Bool.Decides.{nat_tests}
 use Rattle.or_prefix.specs.Reading.{is_hex_digit, is_group, group_value, groups_in, groups_beside, at_double, with_front, around_double}
-use Rattle.or_prefix.specs.Printing.{joined, group_text}
-use Rattle.or_json.proofs.Cuts.{has, passing, pieces_joined}
-use Rattle.or_json.proofs.Digits.{group_again, is_group_again}
+use Rattle.or_prefix.specs.Printing.{join_texts, group_text}
+use Rattle.or_prefix.proofs.PrintedCuts.{has, passing, pieces_joined}
+use Rattle.or_prefix.proofs.PrintedDigits.{group_again, is_group_again}
 
 -- bytes in front of what stands before `::`
 abbrev in_front : List ℕ → Option (List ℕ × List ℕ) → Option (List ℕ × List ℕ)
@@ -53,21 +53,21 @@ group_begins : (word rest : List ℕ) → is_group word ≡ true → begins_with
 group_begins [] rest is = absurd cc
 group_begins (b ∷ word) rest is = colon_other b (and_parts _ _ (and_parts _ _ is).1).0
 
-joined_begins : (word : List ℕ) (words : List (List ℕ)) (rest : List ℕ) → is_group word ≡ true → begins_with_colon (joined 58 (word ∷ words) ++ rest) ≡ false
+joined_begins : (word : List ℕ) (words : List (List ℕ)) (rest : List ℕ) → is_group word ≡ true → begins_with_colon (join_texts 58 (word ∷ words) ++ rest) ≡ false
 joined_begins word [] rest is = group_begins word rest is
 joined_begins word (next ∷ words) rest is =
-    ap begins_with_colon (append_assoc word (58 ∷ joined 58 (next ∷ words)) rest) ∙ group_begins word ((58 ∷ joined 58 (next ∷ words)) ++ rest) is
+    ap begins_with_colon (append_assoc word (58 ∷ join_texts 58 (next ∷ words)) rest) ∙ group_begins word ((58 ∷ join_texts 58 (next ∷ words)) ++ rest) is
 
 -- no `::` stands in a text of groups
-passed : (words : List (List ℕ)) (rest : List ℕ) → list_all is_group words ≡ true → around_double (joined 58 words ++ rest) ≡ in_front (joined 58 words) (around_double rest)
-passed [] rest all = in_front_of_none (around_double rest)
-passed (word ∷ []) rest all = word_passed word rest (and_parts _ _ (and_parts _ _ all).0).1
-passed (word ∷ next ∷ words) rest all =
+no_double_in : (words : List (List ℕ)) (rest : List ℕ) → list_all is_group words ≡ true → around_double (join_texts 58 words ++ rest) ≡ in_front (join_texts 58 words) (around_double rest)
+no_double_in [] rest all = in_front_of_none (around_double rest)
+no_double_in (word ∷ []) rest all = word_passed word rest (and_parts _ _ (and_parts _ _ all).0).1
+no_double_in (word ∷ next ∷ words) rest all =
     let parts = and_parts _ _ all in
-    let more = joined 58 (next ∷ words) in
+    let more = join_texts 58 (next ∷ words) in
     ap around_double (append_assoc word (58 ∷ more) rest)
     ∙ word_passed word (58 ∷ (more ++ rest)) (and_parts _ _ parts.0).1
-    ∙ ap (in_front word) (colon_passed (more ++ rest) (joined_begins next words rest (and_parts _ _ parts.1).0) ∙ ap (with_front 58) (passed (next ∷ words) rest parts.1) ∙ in_front_more 58 more (around_double rest))
+    ∙ ap (in_front word) (colon_passed (more ++ rest) (joined_begins next words rest (and_parts _ _ parts.1).0) ∙ ap (with_front 58) (no_double_in (next ∷ words) rest parts.1) ∙ in_front_more 58 more (around_double rest))
     ∙ in_front_twice word (58 ∷ more) (around_double rest)
 
 -- ---- groups that were printed
@@ -88,16 +88,16 @@ values_again (g ∷ gs) all =
     ap₂ (λ (h : ℕ) (hs : List ℕ). h ∷ hs) (group_again g (ltb-true g 65536 parts.0)) (values_again gs parts.1)
 
 pub no_double : (gs : List ℕ) → are_groups gs ≡ true → around_double (group_text gs) ≡ None
-no_double gs all = ap around_double (sym (append-nil (group_text gs))) ∙ passed (map (digits 16 false) gs) [] (words_are_groups gs all)
+no_double gs all = ap around_double (sym (append-nil (group_text gs))) ∙ no_double_in (map (digits 16 false) gs) [] (words_are_groups gs all)
 
 pub double_found : (before : List ℕ) (rest : List ℕ) → are_groups before ≡ true → around_double (group_text before ++ 58 ∷ 58 ∷ rest) ≡ Some (group_text before, rest)
 double_found before rest all =
-    passed (map (digits 16 false) before) (58 ∷ 58 ∷ rest) (words_are_groups before all) ∙ ap (λ xs. Some (xs, rest)) (append-nil (group_text before))
+    no_double_in (map (digits 16 false) before) (58 ∷ 58 ∷ rest) (words_are_groups before all) ∙ ap (λ xs. Some (xs, rest)) (append-nil (group_text before))
 
 group_free : (word : List ℕ) → is_group word ≡ true → has 58 word ≡ false
 group_free word is = passing is_hex_digit 58 word refl (and_parts _ _ is).1
 
-in_words : (word : List ℕ) (words : List (List ℕ)) → list_all is_group (word ∷ words) ≡ true → groups_in (joined 58 (word ∷ words)) ≡ Some (map group_value (word ∷ words))
+in_words : (word : List ℕ) (words : List (List ℕ)) → list_all is_group (word ∷ words) ≡ true → groups_in (join_texts 58 (word ∷ words)) ≡ Some (map group_value (word ∷ words))
 unfolding groups_in
 in_words word words all =
     ap (λ ps. cond (list_all is_group ps) (Some (map group_value ps)) None) (pieces_joined 58 is_group group_free word words all)
@@ -107,7 +107,7 @@ pub groups_in_text : (g : ℕ) (gs : List ℕ) → are_groups (g ∷ gs) ≡ tru
 groups_in_text g gs all =
     in_words (digits 16 false g) (map (digits 16 false) gs) (words_are_groups (g ∷ gs) all) ∙ ap Some (values_again (g ∷ gs) all)
 
-beside_words : (words : List (List ℕ)) → list_all is_group words ≡ true → groups_beside (joined 58 words) ≡ Some (map group_value words)
+beside_words : (words : List (List ℕ)) → list_all is_group words ≡ true → groups_beside (join_texts 58 words) ≡ Some (map group_value words)
 beside_words [] all = refl
 beside_words ([] ∷ words) all = absurd cc
 beside_words ((b ∷ word) ∷ []) all = in_words (b ∷ word) [] all

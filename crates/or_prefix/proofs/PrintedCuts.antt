@@ -3,7 +3,7 @@ use Rattle.std.proofs.Common.{◌≡◌, ℕ, ◌==◌, Bool, true, false, ◌||
 use Rattle.std.specs.List.{list_all, list_any}
 use Rattle.std.proofs.lemmas.Bool.{and_parts, or_parts, eqb-true, eq-eqb}
 use Rattle.or_prefix.specs.Reading.{pieces, with_first}
-use Rattle.or_prefix.specs.Printing.{joined}
+use Rattle.or_prefix.specs.Printing.{join_texts}
 
 abbrev pub has : ℕ → List ℕ → Bool
 has separator text = list_any (λ b. b == separator) text
@@ -57,14 +57,14 @@ pieces_cut separator (b ∷ text) rest free =
 
 module _ (separator : ℕ) (test : List ℕ → Bool) (free : (text : List ℕ) → test text ≡ true → has separator text ≡ false) where
   pub pieces_joined : (text : List ℕ) (texts : List (List ℕ)) → list_all test (text ∷ texts) ≡ true
-      → pieces separator (joined separator (text ∷ texts)) ≡ text ∷ texts
+      → pieces separator (join_texts separator (text ∷ texts)) ≡ text ∷ texts
   pieces_joined text [] all = pieces_whole separator text (free text (and_parts _ _ all).0)
   pieces_joined text (other ∷ others) all =
       let parts = and_parts _ _ all in
-      pieces_cut separator text (joined separator (other ∷ others)) (free text parts.0) ∙ ap (λ ts. text ∷ ts) (pieces_joined other others parts.1)
+      pieces_cut separator text (join_texts separator (other ∷ others)) (free text parts.0) ∙ ap (λ ts. text ∷ ts) (pieces_joined other others parts.1)
 
 module _ (separator byte : ℕ) (test : List ℕ → Bool) (free : (text : List ℕ) → test text ≡ true → has byte text ≡ false) where
-  pub has_joined : (texts : List (List ℕ)) → (separator == byte) ≡ false → list_all test texts ≡ true → has byte (joined separator texts) ≡ false
+  pub has_joined : (texts : List (List ℕ)) → (separator == byte) ≡ false → list_all test texts ≡ true → has byte (join_texts separator texts) ≡ false
   has_joined [] other all = refl
   has_joined (text ∷ []) other all = free text (and_parts _ _ all).0
   has_joined (text ∷ next ∷ texts) other all =

@@ -1,4 +1,4 @@
-use crate::{adj_of_text, adj_to_text, prefixes_of_text, prefixes_to_text};
+use or_json::{adj_of, adj_text, prefixes_of, prefixes_text};
 use std::test::Fail;
 
 const LINK: &str =
@@ -76,14 +76,14 @@ const PREFIXES: [(&str, Option<&str>); 5] = [
 fn reads_and_writes_links(rt: HostRuntime) -> Result<(), Fail> {
     let alloc = rt.alloc();
     for (text, want) in LINKS {
-        match adj_of_text(alloc, text.as_bytes())? {
+        match adj_of(alloc, text.as_bytes())? {
             Some(db) => {
                 for a in db.adjacencies.as_slice() {
                     assert_eq!(rt; a.other.as_str(), "a");
                     assert_eq!(rt; a.own_if.as_str(), "if-a");
                     assert_eq!(rt; a.other_if.as_str(), "if-b");
                 }
-                let written = adj_to_text(alloc, &db)?;
+                let written = adj_text(alloc, &db)?;
                 assert_eq!(rt;
                     Some(written.as_slice()),
                     want.map(|w| w.as_bytes()),
@@ -100,9 +100,9 @@ fn reads_and_writes_links(rt: HostRuntime) -> Result<(), Fail> {
 fn reads_and_writes_prefixes(rt: HostRuntime) -> Result<(), Fail> {
     let alloc = rt.alloc();
     for (text, want) in PREFIXES {
-        match prefixes_of_text(alloc, text.as_bytes())? {
+        match prefixes_of(alloc, text.as_bytes())? {
             Some(db) => {
-                let written = prefixes_to_text(alloc, &db)?;
+                let written = prefixes_text(alloc, &db)?;
                 assert_eq!(rt;
                     Some(written.as_slice()),
                     want.map(|w| w.as_bytes()),

@@ -7,11 +7,11 @@ use Rattle.std.specs.Fmt.{digits}
 use Rattle.std.proofs.lemmas.Bool.{and_parts, and_from, ltb-false, eq-eqb}
 use Rattle.std.proofs.lemmas.List.{length-replicate}
 use Rattle.or_prefix.specs.Reading.{is_digit, is_octet, decimal_value, is_hex_digit, is_group, pieces, v4_address, groups_beside, all_groups, filled_groups, groups_around, around_double, v6_address, has_colon, address_of}
-use Rattle.or_prefix.specs.Printing.{joined, octets, groups, longest_run, run_start, group_text, v6_text, v4_text}
-use Rattle.or_json.proofs.Cuts.{has, has-append, has_behind, passing, pieces_joined, has_joined}
-use Rattle.or_json.proofs.Digits.{octet_again, decimal_again}
-use Rattle.or_json.proofs.Doubles.{are_groups, words_are_groups, no_double, double_found, groups_in_text, groups_beside_text}
-use Rattle.or_json.proofs.Runs.{around_run}
+use Rattle.or_prefix.specs.Printing.{join_texts, octets, groups, longest_run, run_start, group_text, v6_text, v4_text}
+use Rattle.or_prefix.proofs.PrintedCuts.{has, has-append, has_behind, passing, pieces_joined, has_joined}
+use Rattle.or_prefix.proofs.PrintedDigits.{octet_again, decimal_again}
+use Rattle.or_prefix.proofs.PrintedDoubles.{are_groups, words_are_groups, no_double, double_found, groups_in_text, groups_beside_text}
+use Rattle.or_prefix.proofs.PrintedRuns.{around_run}
 
 -- what reading needs of an address's text
 pub record IsAddress (v6 : Bool) (bits : ℕ) (text : List ℕ) : Type 0 where
@@ -53,7 +53,7 @@ v4_is_address : (bits : ℕ) → bits < 2 ^ 32 → IsAddress false bits (v4_text
 unfolding v4_text
 v4_is_address bits small =
     let words = map decimal (octets bits) in
-    let text = joined 46 words in
+    let text = join_texts 46 words in
     let colon : has_colon text ≡ false = has_joined 46 58 is_octet (octet_free 58 refl) words refl (are_octets bits small) in
     record {
       colon = colon;
