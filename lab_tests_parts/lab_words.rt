@@ -1,4 +1,4 @@
-use crate::{Mode, Words, WordsFault, read_words};
+use lab_words::{Mode, Words, WordsFault, read_words};
 use std::alloc::{AllocError, Global};
 use std::test::Fail;
 
