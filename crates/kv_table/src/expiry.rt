@@ -2,7 +2,7 @@ ghost use Rattle.std.specs.Prelude.{◌≡◌, map, IfOk, OnOk};
 ghost use Rattle.kv_table.specs.Expiry.{deadline_of, due};
 ghost use Rattle.kv_table.specs.Deadlines.{with_deadline, with_due};
 
-use or_base::{JournalEntry, Key, NoMemory, held_keys, held_under};
+use or_base::{JournalEntry, Key, NoMemory, held_keys, holds};
 use std::alloc::Global;
 
 /// A key that is held with a lifetime, and the moment in milliseconds at which it is lost.
@@ -16,7 +16,7 @@ pub struct Deadline {
 fn deadline_of(journal: &[JournalEntry], key: &Key) -> Option<u128>
     ensures { result ≡ deadline_of journal.now key.now }
 {
-    let held = held_under(journal, key)?;
+    let held = holds(journal, key)?;
     let ttl = held.value.ttl?;
     Some(u128::from(held.merged_at) + u128::from(ttl))
 }

@@ -7,7 +7,7 @@
 //! entry (`clear`); nothing else changes the table. What it sends of keys, with the lifetime that is left, is defined in
 //! `specs/Sending.antt`, and the digest that tells of it without its values in `specs/Digest.antt`. Contracts see the
 //! table as its journal, so what they say of it stays true of any faster table. This is the plain body: a lookup scans
-//! the journal from its end (or_base's `held_under`), so its time is linear in the journal's length. The promise is
+//! the journal from its end (or_base's `holds`), so its time is linear in the journal's length. The promise is
 //! that `get` is `holds` and `offer` is `offer` of or_base, to the entry; the law that the greatest value offered is
 //! held follows from or_base's `offers_hold_greatest`.
 //!
