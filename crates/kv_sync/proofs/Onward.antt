@@ -5,8 +5,6 @@ use Rattle.std.specs.Option.{IsSomeAnd}
 use Rattle.std.specs.Ordering.{nat_cmp, is_eq, match_ordering}
 use Rattle.std.specs.declared.cmp.Ordering.{Ordering}
 use Rattle.std.specs.declared.cmp.Ordering.TheVariants.{Less, Equal, Greater}
-use Rattle.std.specs.Map.{lookup, remove_entry}
-use Rattle.std.specs.BTreeMap.{insert_entry, is_at}
 use Rattle.std.proofs.lemmas.Bool.{eqb-true, eqb-false, le-ltb, eq-eqb}
 use Rattle.std.proofs.lemmas.Cmp.{ranked}
 use Rattle.or_base.specs.ByLink.{at_link, with_link, without_link}
@@ -15,7 +13,7 @@ use Rattle.kv_sync.specs.declared.session.SyncPhase.TheVariants.{Dumped, Pushed}
 use Rattle.kv_sync.specs.declared.session.Session.{Session}
 use Rattle.kv_sync.specs.declared.session.Stale.{Stale}
 use Rattle.kv_sync.specs.Sessions.{SessionsState, session_on, with_started_session, is_in, current, current_of, current_if, session_after_reply, with_more_withheld, after_reply, after_ack, after_push}
-use Rattle.kv_sync.specs.Law.{Step, start, reply, push, ack, drop_link, drop_all, after_step, is_onward, GoesOnAs, ends, SessionsGoOn}
+use Rattle.kv_sync.specs.Law.{start, reply, push, ack, drop_link, drop_all, is_onward, GoesOnAs, SessionsGoOn}
 use Rattle.kv_sync.proofs.Law.{found_where_current}
 
 -- ---- maps by link

@@ -1,5 +1,5 @@
 -- A session's number isn't used again, until the counter of numbers saturates; and a session goes on until it is ended.
-use Rattle.std.specs.Prelude.{◌≡◌, ℕ, ◌+◌, ◌^◌, ◌<◌, List, [], ◌∷◌, length, Bool, true, false, ◌&&◌, ◌==◌, Option, Some}
+use Rattle.std.specs.Prelude.{◌≡◌, ℕ, ◌+◌, ◌^◌, ◌<◌, List, [], ◌∷◌, length, Bool, true, false, ◌&&◌, ◌==◌, Some}
 use Rattle.std.specs.Option.{IsSomeAnd}
 use Rattle.kv_sync.specs.declared.session.SyncPhase.{SyncPhase}
 use Rattle.kv_sync.specs.declared.session.Session.{Session}

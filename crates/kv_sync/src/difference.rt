@@ -5,7 +5,7 @@ ghost use Rattle.kv_sync.specs.Difference.{row_for, keys_of, rank_cmp, is_better
 
 use kv_table::KvTable;
 use kv_value::hash_of;
-use or_base::{DigestRow, Key, KvValue, NoMemory, insert_key, held_keys};
+use or_base::{DigestRow, Key, KvValue, NoMemory, held_keys, insert_key};
 use std::alloc::Global;
 use std::cmp::Ordering;
 

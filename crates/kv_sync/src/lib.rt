@@ -5,8 +5,8 @@
 //! of its journal (Reply, by `reply_to`). The starter sends what was wanted (Push), and the peer acknowledges it (Ack, by
 //! `ack`). `Sessions` keeps the running sessions of the starter, one a link, each with the lengths of both journals and
 //! how many pairs were withheld because their lifetime was too short. A session is Dumped until its reply arrives, then
-//! Pushed until its acknowledgement arrives. A message with another number or phase than the link's running session is stale, and
-//! changes nothing.
+//! Pushed until its acknowledgement arrives. A message with another number or phase than the link's running session is
+//! stale, and changes nothing.
 //!
 //! The promises are that `diff` gives exactly the lists of `specs/Difference.antt` and every message is that of
 //! `specs/Messages.antt`, over the table's journal; that each call does what `specs/Sessions.antt` defines, and is stale
