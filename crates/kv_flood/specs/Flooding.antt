@@ -1,16 +1,12 @@
 -- To whom a store floods, and what.
 use Rattle.std.specs.Prelude.{ℕ, List, [], ◌∷◌, ◌++◌, Option, Some, None, Bool, ◌&&◌, not}
-use Rattle.std.specs.List.{list_any}
 use Rattle.std.specs.Str.{bytes_eq}
 use Rattle.or_base.specs.declared.value.Pair.{Pair}
 use Rattle.or_base.specs.declared.entry.JournalEntry.{JournalEntry}
 use Rattle.or_base.specs.declared.message.Msg.{Msg}
 use Rattle.or_base.specs.declared.message.Msg.TheVariants.{Flood}
+use Rattle.or_base.specs.Names.{is_among}
 use Rattle.kv_table.specs.Sending.{sent_pairs}
-
--- the name is one of these
-abbrev pub is_among : List ℕ → List (List ℕ) → Bool
-is_among name names = list_any (bytes_eq name) names
 
 -- a flood goes to a peer that it hasn't passed
 abbrev pub is_target : List ℕ → List ℕ → List (List ℕ) → Bool

@@ -6,10 +6,10 @@
 //! it, with the lifetime that is left less one millisecond; a key that isn't held, or whose lifetime is used up, sends
 //! nothing.
 //! Where nothing is sent there is no flood. The flood's list of passed nodes is the one given, followed by this node.
-//! The promise is that both answer exactly what `specs/Flooding.antt` defines over the table's journal, but for want
-//! of memory, which only `flood_message` can meet.
+//! The promise is that both answer exactly what `specs/Flooding.antt` defines over the table's journal; only
+//! `flood_message` can run out of memory.
 //!
-//! The files: `target` (to whom), `message` (what), `tests`.
+//! The files: `target` (to whom), `message` (what).
 #![tactic(auto)]
 
 mod message;
@@ -17,6 +17,3 @@ mod target;
 
 pub use message::flood_message;
 pub use target::flood_target;
-
-#[cfg(test)]
-mod tests;

@@ -1,15 +1,7 @@
 ghost use Rattle.std.specs.Prelude.{◌≡◌};
-ghost use Rattle.kv_flood.specs.Flooding.{is_among, is_target};
+ghost use Rattle.kv_flood.specs.Flooding.{is_target};
 
-use or_base::Name;
-
-/// The name is one of these.
-fn is_among(name: &Name, names: &[Name]) -> bool
-    ensures { result ≡ is_among name.now names.now }
-{
-    let name = name.as_str();
-    names.iter().any(|other| name == other.as_str())
-}
+use or_base::{Name, is_among};
 
 /// A flood that has passed these nodes goes from `me` to the peer: the peer is neither `me` nor among them. It takes
 /// no memory.

@@ -5,19 +5,19 @@ use Rattle.or_base.specs.declared.entry.JournalEntry.{JournalEntry}
 use Rattle.or_base.specs.declared.value.Pair.{Pair}
 use Rattle.or_base.specs.declared.origin.Origin.{Origin}
 use Rattle.or_base.specs.declared.entry.JournalEntry.TheVariants.{Merged, Expired, Cleared}
-use Rattle.or_base.specs.declared.origin.Origin.TheVariants.{Local, Flood as Flooded, SyncReply, SyncPush}
+use Rattle.or_base.specs.declared.origin.Origin.TheVariants as origin
 use Rattle.or_base.specs.declared.message.Msg.{Msg}
 use Rattle.or_base.specs.declared.message.Msg.TheVariants.{Flood, Reply, Push, Ack}
 use Rattle.or_base.specs.declared.item.Item.{Item}
 use Rattle.or_base.specs.declared.item.Item.TheVariants.{Tick, Set, Restart, Net}
 use Rattle.or_base.specs.Journal.{offer, is_taken}
 use Rattle.kv_table.specs.Expiry.{due}
-use Rattle.kv_flood.specs.Flooding.{is_among}
+use Rattle.or_base.specs.Names.{is_among}
 use Rattle.kv_sync.specs.declared.session.Session.{Session}
 use Rattle.kv_sync.specs.declared.session.Stale.{Stale}
 use Rattle.kv_sync.specs.declared.session.SyncPhase.TheVariants.{Dumped, Pushed}
 use Rattle.kv_sync.specs.Sessions.{current}
-use Rattle.kv_store.specs.Store.{StoreState, offer_all, reply_taken, ack_taken, message_input, input_step, store_step}
+use Rattle.kv_store.specs.Store.{StoreState, offer_all, store_after_reply, store_after_ack, message_change, item_change, store_step}
 use Rattle.kv_store.specs.Growth.{IsFront, JournalsGrow}
 
 -- a journal is the front of itself, and of itself with more; a front of a front is a front
@@ -52,37 +52,37 @@ offers_grow journal (pair ∷ pairs) now origin =
     (offer_grows journal pair now origin) (offers_grow (offer journal pair now origin) pairs now origin)
 
 flood_grows : (s : StoreState) (test : Bool) (pairs : List Pair)
-    → IsFront s.journal (if test then s else record s { journal = offer_all s.journal pairs s.moment Flooded }).journal
+    → IsFront s.journal (if test then s else record s { journal = offer_all s.journal pairs s.moment origin.Flood }).journal
 flood_grows s true pairs = front_same s.journal
-flood_grows s false pairs = offers_grow s.journal pairs s.moment Flooded
+flood_grows s false pairs = offers_grow s.journal pairs s.moment origin.Flood
 
-reply_grows : (s : StoreState) (link b0 : ℕ) (pairs : List Pair) (withheld : ℕ) (running : Result Session Stale) → IsFront s.journal (reply_taken s link b0 pairs withheld running).journal
-reply_grows s link b0 pairs withheld (Ok session) = offers_grow s.journal pairs s.moment SyncReply
+reply_grows : (s : StoreState) (link b0 : ℕ) (pairs : List Pair) (withheld : ℕ) (running : Result Session Stale) → IsFront s.journal (store_after_reply s link b0 pairs withheld running).journal
+reply_grows s link b0 pairs withheld (Ok session) = offers_grow s.journal pairs s.moment origin.SyncReply
 reply_grows s link b0 pairs withheld (Err stale) = front_same s.journal
 
-ack_grows : (s : StoreState) (link : ℕ) (running : Result Session Stale) → IsFront s.journal (ack_taken s link running).journal
+ack_grows : (s : StoreState) (link : ℕ) (running : Result Session Stale) → IsFront s.journal (store_after_ack s link running).journal
 ack_grows s link (Ok session) = front_same s.journal
 ack_grows s link (Err stale) = front_same s.journal
 
-message_grows : (s : StoreState) (link : ℕ) (msg : Msg) → IsFront s.journal (message_input s link msg).journal
-message_grows s link (Flood passed pairs) = flood_grows s (is_among s.me passed) pairs
-message_grows s link (Reply session b0 pairs wanted withheld) = reply_grows s link b0 pairs withheld (current s.sessions link session Dumped)
-message_grows s link (Push session pairs) = offers_grow s.journal pairs s.moment SyncPush
-message_grows s link (Ack session) = ack_grows s link (current s.sessions link session Pushed)
-message_grows s link _ = front_same s.journal
+message_grows : (s : StoreState) (link : ℕ) (from : List ℕ) (msg : Msg) → IsFront s.journal (message_change s link from msg).store.journal
+message_grows s link from (Flood passed pairs) = flood_grows s (is_among s.me passed) pairs
+message_grows s link from (Reply session b0 pairs wanted withheld) = reply_grows s link b0 pairs withheld (current s.sessions link session Dumped)
+message_grows s link from (Push session pairs) = offers_grow s.journal pairs s.moment origin.SyncPush
+message_grows s link from (Ack session) = ack_grows s link (current s.sessions link session Pushed)
+message_grows s link from _ = front_same s.journal
 
-input_grows : (s : StoreState) (item : Item) → IsFront s.journal (input_step s item).journal
-unfolding input_step
-input_grows s (Tick at) = front_with s.journal (map (λ d. Expired d.key at) (due s.journal at))
-input_grows s (Set pair) = offer_grows s.journal pair s.moment Local
-input_grows s Restart = front_with s.journal (Cleared s.moment ∷ [])
-input_grows s (Net link from msg) = message_grows s link msg
-input_grows s _ = front_same s.journal
+item_grows : (s : StoreState) (item : Item) → IsFront s.journal (item_change s item).store.journal
+unfolding item_change
+item_grows s (Tick at) = front_with s.journal (map (λ key. Expired key at) (due s.journal at))
+item_grows s (Set pair) = offer_grows s.journal pair s.moment origin.Local
+item_grows s Restart = front_with s.journal (Cleared s.moment ∷ [])
+item_grows s (Net link from msg) = message_grows s link from msg
+item_grows s _ = front_same s.journal
 
 -- what the item changes leaves the journal as long as it was, or longer
-pub journal_grows : (s : StoreState) (item : Item) → length s.journal ≤ length (input_step s item).journal
-journal_grows s item = front_shorter s.journal (input_step s item).journal (input_grows s item)
+pub journal_grows : (s : StoreState) (item : Item) → length s.journal ≤ length (item_change s item).store.journal
+journal_grows s item = front_shorter s.journal (item_change s item).store.journal (item_grows s item)
 
 pub journals_grow : JournalsGrow
 unfolding store_step
-journals_grow s item = input_grows s item
+journals_grow s item = item_grows s item

@@ -1,5 +1,5 @@
 pub mod Peers
 pub mod Growth
 pub mod Starting
-pub mod Answering
+pub mod Responding
 pub mod Turn

@@ -1,5 +1,5 @@
 -- Floods to the peers of a store, whose links have small numbers.
-use Rattle.std.proofs.Common.{◌≡◌, ℕ, ◌<◌, ◌^◌, List, [], ◌∷◌, ◌++◌, Option, Some, None, Bool, true, false, ◌&&◌, if◌then◌else◌, refl, sym, ◌∙◌, ap, append_assoc, arith}
+use Rattle.std.proofs.Common.{◌≡◌, ℕ, ◌<◌, ◌^◌, List, [], ◌∷◌, ◌++◌, Option, Some, None, Result, Ok, Err, Bool, true, false, ◌&&◌, if◌then◌else◌, refl, sym, ◌∙◌, ap, append_assoc, arith}
 use Rattle.std.specs.Prelude.{All}
 use Rattle.std.specs.List.{flat_map}
 use Rattle.std.specs.Map.{keys_of, remove_entry}
@@ -7,14 +7,24 @@ use Rattle.std.specs.Ordering.{nat_cmp}
 use Rattle.std.specs.BTreeMap.{insert_entry, is_at}
 use Rattle.std.proofs.lemmas.List.Elements.{All-head, All-tail, All-same}
 use Rattle.std.proofs.lemmas.List.Folds.{list_all-append}
+use Rattle.std.proofs.lemmas.Bool.{ltb-true}
 use Rattle.std.proofs.lemmas.Bool.Decides.{nat_tests}
 use Rattle.std.proofs.lemmas.Map.Views.{All-keys-insert_entry, All-map-remove_entry}
 use Rattle.or_base.specs.declared.entry.JournalEntry.{JournalEntry}
+use Rattle.or_base.specs.Names.{is_among}
+use Rattle.or_base.specs.declared.item.Item.{Item}
+use Rattle.or_base.specs.declared.item.Item.TheVariants.{PeerUp, PeerDown, Net}
 use Rattle.or_base.specs.declared.message.Msg.{Msg}
+use Rattle.or_base.specs.declared.message.Msg.TheVariants.{Flood, Reply, Ack}
+use Rattle.or_base.specs.declared.origin.Origin.TheVariants as origin
+use Rattle.kv_sync.specs.declared.session.Session.{Session}
+use Rattle.kv_sync.specs.declared.session.Stale.{Stale}
+use Rattle.kv_sync.specs.declared.session.SyncPhase.TheVariants.{Dumped, Pushed}
+use Rattle.kv_sync.specs.Sessions.{current}
 use Rattle.or_actor.specs.declared.output.Output.{Output}
-use Rattle.or_actor.specs.Fits.{sends_small_link, have_small_links}
+use Rattle.or_actor.specs.Fits.{has_small_link, sends_small_link, have_small_links}
 use Rattle.kv_flood.specs.Flooding.{is_target, flood_message}
-use Rattle.kv_store.specs.Store.{StoreState, message_on, relay_to, begin_to, floods_to, relayed_keys, own_keys, floods}
+use Rattle.kv_store.specs.Store.{StoreState, store_after_offers, store_after_reply, store_after_ack, message_change, item_change, message_on, relay_to, begin_to, floods_to, relayed_keys, own_keys, floods}
 
 -- ---- what floods name
 
@@ -53,8 +63,6 @@ pub have_small_links-floods : (s : StoreState) (entries : List JournalEntry) (pa
 unfolding floods
 have_small_links-floods s entries passed h = small_all s.me s.journal s.moment (relayed_keys entries) passed (own_keys entries) s.peers h
 
-pub ruleset small_floods = (have_small_links-floods)
-
 -- ---- the peers
 
 -- the links of the other peers
@@ -78,6 +86,30 @@ pub small_without : (link : ℕ) (peers after : List (ℕ × List ℕ)) → afte
 small_without link peers after e h =
     All-same (λ l. l < 2 ^ 31) (keys_of after) (keys_of (remove_entry (is_at (nat_cmp link)) peers)) (ap keys_of e)
     (All-map-remove_entry (is_at (nat_cmp link)) (λ p. p.0) (λ l. l < 2 ^ 31) peers h)
+
+-- those of a store that has taken an item
+message_peers : (s : StoreState) (link : ℕ) (from : List ℕ) (msg : Msg) → s.peers ≡ (message_change s link from msg).store.peers
+message_peers s link from (Flood passed pairs) = flood_peers (is_among s.me passed) where
+  flood_peers : (test : Bool) → s.peers ≡ (if test then s else store_after_offers s pairs origin.Flood).peers
+  flood_peers true = refl
+  flood_peers false = refl
+message_peers s link from (Reply session b0 pairs wanted withheld) = reply_peers (current s.sessions link session Dumped) where
+  reply_peers : (running : Result Session Stale) → s.peers ≡ (store_after_reply s link b0 pairs withheld running).peers
+  reply_peers (Ok session) = refl
+  reply_peers (Err stale) = refl
+message_peers s link from (Ack session) = ack_peers (current s.sessions link session Pushed) where
+  ack_peers : (running : Result Session Stale) → s.peers ≡ (store_after_ack s link running).peers
+  ack_peers (Ok session) = refl
+  ack_peers (Err stale) = refl
+message_peers s link from _ = refl
+
+pub small_peers : (s : StoreState) (item : Item) → All (λ l. l < 2 ^ 31) (keys_of s.peers) → has_small_link item ≡ true → All (λ l. l < 2 ^ 31) (keys_of (item_change s item).store.peers)
+unfolding item_change
+small_peers s (PeerUp link peer) all small = small_with link peer s.peers (insert_entry nat_cmp s.peers link peer) refl all (ltb-true link (2 ^ 31) small)
+small_peers s (PeerDown link) all small = small_without link s.peers (remove_entry (is_at (nat_cmp link)) s.peers) refl all
+small_peers s (Net link from msg) all small =
+    All-same (λ l. l < 2 ^ 31) (keys_of (message_change s link from msg).store.peers) (keys_of s.peers) (ap keys_of (sym (message_peers s link from msg))) all
+small_peers s _ all small = all
 
 -- one peer's floods more
 pub flooded_more : (to : ℕ × List ℕ → List Output) (p : ℕ × List ℕ) (left rest : List (ℕ × List ℕ)) (out after all : List Output)

@@ -1,40 +1,40 @@
 -- A node's store as a module: one turn.
-use Rattle.std.specs.Prelude.{ℕ, ◌+◌, ◌-◌, ◌^◌, min, List, [], ◌∷◌, ◌++◌, length, drop, Bool, true, false, not, Option, Some, None, Result, Ok, Err, if◌then◌else◌}
+use Rattle.std.specs.Prelude.{ℕ, ◌+◌, List, [], ◌∷◌, ◌++◌, length, drop, Bool, true, false, not, Option, Some, None, Result, Ok, Err, if◌then◌else◌}
 use Rattle.std.specs.Str.{bytes_eq}
 use Rattle.std.specs.Option.{option_map_or}
-use Rattle.std.specs.List.{flat_map, filter}
-use Rattle.std.specs.Ordering.{nat_cmp}
-use Rattle.std.specs.BTreeMap.{insert_entry, is_at}
-use Rattle.std.specs.Map.{lookup, remove_entry}
+use Rattle.std.specs.List.{flat_map, filter, filter_map, last_or}
 use Rattle.or_base.specs.declared.entry.JournalEntry.{JournalEntry}
 use Rattle.or_base.specs.declared.entry.JournalEntry.TheVariants.{Merged, Expired, Cleared}
 use Rattle.or_base.specs.declared.value.Pair.{Pair}
 use Rattle.or_base.specs.declared.origin.Origin.{Origin}
 use Rattle.or_base.specs.declared.origin.Origin.TheVariants as origin
 use Rattle.or_base.specs.declared.message.Msg.{Msg}
-use Rattle.or_base.specs.declared.message.Msg.TheVariants.{Flood}
+use Rattle.or_base.specs.declared.message.Msg.TheVariants.{Flood, Hello, Handshake, Heartbeat}
 use Rattle.or_base.specs.declared.message.Msg.TheVariants as msg
 use Rattle.or_base.specs.declared.item.Item.{Item}
-use Rattle.or_base.specs.declared.item.Item.TheVariants.{Tick, Set, Sync, Restart, PeerUp, PeerDown, Net}
+use Rattle.or_base.specs.declared.item.Item.TheVariants.{Up, Down, Script, Tick, Set, Sync, Restart, Persist, Unset, Drain, LinkDrain, Metric, Advertise, Withdraw, Aggregate, Get, Ask, LinkUp, LinkDown, NeighbourUp, NeighbourDown, PeerUp, PeerDown, Net, Entry, Routes}
 use Rattle.or_base.specs.declared.session.SyncDone.{SyncDone}
+use Rattle.or_base.specs.ByLink.{at_link, with_link, without_link}
+use Rattle.or_base.specs.Counting.{saturate}
 use Rattle.or_base.specs.Journal.{offer, held_keys}
+use Rattle.or_base.specs.Names.{is_among}
 use Rattle.or_actor.specs.declared.output.Output.{Output}
 use Rattle.or_actor.specs.declared.output.Output.TheVariants.{To}
-use Rattle.or_actor.specs.declared.ports.TheConstants.{FIRST_LINK_PORT}
+use Rattle.or_actor.specs.Ports.{first_link_port}
 use Rattle.kv_table.specs.Expiry.{expire}
 use Rattle.kv_table.specs.Sending.{withheld_count}
-use Rattle.kv_flood.specs.Flooding.{is_among, is_target, flood_message}
+use Rattle.kv_flood.specs.Flooding.{is_target, flood_message}
 use Rattle.kv_sync.specs.declared.session.Session.{Session}
 use Rattle.kv_sync.specs.declared.session.Stale.{Stale}
 use Rattle.kv_sync.specs.declared.session.SyncPhase.TheVariants.{Dumped, Pushed}
-use Rattle.kv_sync.specs.Sessions.{SessionsState, no_sessions, session_on, with_session, without_session, without_sessions, started, current, pushed, after_push, done_of}
+use Rattle.kv_sync.specs.Sessions.{SessionsState, no_sessions, session_on, with_session, without_session, without_sessions, with_started_session, current, session_after_reply, after_push, done_of}
 use Rattle.kv_sync.specs.Running.{may_push}
 use Rattle.kv_sync.specs.Messages.{dump_message, reply_message, push_message, ack_message}
-use Rattle.kv_store.specs.declared.due.Due.{Due}
-use Rattle.kv_store.specs.declared.due.Due.TheVariants.{Nothing, Start, StartAll, Reply, Push, Ack}
+use Rattle.kv_store.specs.declared.response.Response.{Response}
+use Rattle.kv_store.specs.declared.response.Response.TheVariants.{Nothing, Start, StartAll, Reply, Push, Ack}
 
 -- A store: its node's name, its journal, the moment in milliseconds, the name of the peer on each link that has one,
--- in the order of links, the full syncs that it started and that run, the count of stale messages that it met, and the full
+-- in the order of links, the full syncs that it started and that run, the count of stale messages that arrived, and the full
 -- syncs that it started and that were finished, in the order of their ends.
 pub record StoreState : Type 0 where
   pub me : List ℕ
@@ -49,99 +49,123 @@ pub record StoreState : Type 0 where
 abbrev pub new_store : List ℕ → StoreState
 new_store me = record { me = me; journal = []; moment = 0; peers = []; sessions = no_sessions; stale = 0; done = [] }
 
--- ---- what the item changes
+-- ---- what an item changes
 
 -- the journal after pairs are offered, in order
 abbrev pub offer_all : List JournalEntry → List Pair → ℕ → Origin → List JournalEntry
 offer_all journal [] now origin = journal
 offer_all journal (pair ∷ pairs) now origin = offer_all (offer journal pair now origin) pairs now origin
 
--- pairs are offered
-abbrev pub offered : StoreState → List Pair → Origin → StoreState
-offered s pairs origin = record s { journal = offer_all s.journal pairs s.moment origin }
+abbrev pub store_after_offers : StoreState → List Pair → Origin → StoreState
+store_after_offers s pairs origin = record s { journal = offer_all s.journal pairs s.moment origin }
 
 -- the pairs of a flood are offered, unless the flood has passed this node
-abbrev pub flood_taken : StoreState → List (List ℕ) → List Pair → StoreState
-flood_taken s passed pairs = if is_among s.me passed then s else offered s pairs origin.Flood
+abbrev pub store_after_flood : StoreState → List (List ℕ) → List Pair → StoreState
+store_after_flood s passed pairs = if is_among s.me passed then s else store_after_offers s pairs origin.Flood
 
--- a stale message counts; the count stands still at the end of 64 bits
-abbrev pub staled : StoreState → StoreState
-staled s = record s { stale = min (s.stale + 1) (2 ^ 64 - 1) }
+-- a stale message counts; the count saturates
+abbrev pub with_stale_counted : StoreState → StoreState
+with_stale_counted s = record s { stale = saturate (s.stale + 1) }
 
--- a reply that meets its session: its pairs are offered; one that is stale counts
-abbrev pub reply_taken : StoreState → ℕ → ℕ → List Pair → ℕ → Result Session Stale → StoreState
-reply_taken s link b0 pairs withheld (Ok session) =
-    offered (record s { sessions = with_session s.sessions link (pushed session b0 withheld) }) pairs origin.SyncReply
-reply_taken s link b0 pairs withheld (Err stale) = staled s
+-- a reply that arrives for its session: its pairs are offered; one that is stale counts
+abbrev pub store_after_reply : StoreState → ℕ → ℕ → List Pair → ℕ → Result Session Stale → StoreState
+store_after_reply s link b0 pairs withheld (Ok session) =
+    store_after_offers (record s { sessions = with_session s.sessions link (session_after_reply session b0 withheld) }) pairs origin.SyncReply
+store_after_reply s link b0 pairs withheld (Err stale) = with_stale_counted s
 
--- an acknowledgement that meets its session: the sync is finished; one that is stale counts
-abbrev pub ack_taken : StoreState → ℕ → Result Session Stale → StoreState
-ack_taken s link (Ok session) = record s { sessions = without_session s.sessions link; done = s.done ++ done_of link session ∷ [] }
-ack_taken s link (Err stale) = staled s
+-- and what it wants is pushed
+abbrev pub response_to_reply : ℕ → List (List ℕ) → Result Session Stale → Response
+response_to_reply link wanted (Ok session) = Push link wanted
+response_to_reply link wanted (Err stale) = Nothing
 
--- what a message changes; a dump changes nothing
-abbrev pub message_input : StoreState → ℕ → Msg → StoreState
-message_input s link (Flood passed pairs) = flood_taken s passed pairs
-message_input s link (msg.Reply session b0 pairs wanted withheld) = reply_taken s link b0 pairs withheld (current s.sessions link session Dumped)
-message_input s link (msg.Push session pairs) = offered s pairs origin.SyncPush
-message_input s link (msg.Ack session) = ack_taken s link (current s.sessions link session Pushed)
-message_input s link _ = s
+-- an acknowledgement that arrives for its session: the sync is finished; one that is stale counts
+abbrev pub store_after_ack : StoreState → ℕ → Result Session Stale → StoreState
+store_after_ack s link (Ok session) = record s { sessions = without_session s.sessions link; done = s.done ++ done_of link session ∷ [] }
+store_after_ack s link (Err stale) = with_stale_counted s
 
--- A tick sets the moment, and what has reached its deadline is lost. A pair that is set is offered. Peers come and go, and with
--- them the full syncs on their links. A restart loses what is held, and ends all full syncs.
-unfoldable pub input_step : StoreState → Item → StoreState
-input_step s (Tick at) = record s { moment = at; journal = expire s.journal at }
-input_step s (Set pair) = record s { journal = offer s.journal pair s.moment origin.Local }
-input_step s (PeerUp link peer) = record s { peers = insert_entry nat_cmp s.peers link peer }
-input_step s (PeerDown link) = record s { peers = remove_entry (is_at (nat_cmp link)) s.peers; sessions = without_session s.sessions link }
-input_step s Restart = record s { journal = s.journal ++ Cleared s.moment ∷ []; sessions = without_sessions s.sessions }
-input_step s (Net link from msg) = message_input s link msg
-input_step s _ = s
+-- What an item makes of a store: the store after it, what it has to respond with, and the nodes that the flood of what the item brings
+-- has passed.
+pub record Change : Type 0 where
+  pub store : StoreState
+  pub response : Response
+  pub passed : List (List ℕ)
 
--- ---- what is answered
+-- the store becomes this one, and nothing is to be responded
+abbrev pub change_to : StoreState → Change
+change_to s = record { store = s; response = Nothing; passed = [] }
 
--- what a message has to be answered with, by the session that ran as it came
-abbrev pub reply_due : ℕ → List (List ℕ) → Result Session Stale → Due
-reply_due link wanted (Ok session) = Push link wanted
-reply_due link wanted (Err stale) = Nothing
+-- each message of the node `from`; the last three are of Spark, and a store doesn't take them
+abbrev pub message_change : StoreState → ℕ → List ℕ → Msg → Change
+message_change s link from (Flood passed pairs) = record { store = store_after_flood s passed pairs; response = Nothing; passed = passed }
+message_change s link from (msg.Dump session digest) = record { store = s; response = Reply link session digest; passed = [] }
+message_change s link from (msg.Reply session b0 pairs wanted withheld) = record {
+  store = store_after_reply s link b0 pairs withheld (current s.sessions link session Dumped);
+  response = response_to_reply link wanted (current s.sessions link session Dumped);
+  passed = from ∷ [];
+}
+message_change s link from (msg.Push session pairs) = record { store = store_after_offers s pairs origin.SyncPush; response = Ack link session; passed = from ∷ [] }
+message_change s link from (msg.Ack session) = change_to (store_after_ack s link (current s.sessions link session Pushed))
+message_change s link from (Hello iface heard restarting) = change_to s
+message_change s link from (Handshake iface done) = change_to s
+message_change s link from Heartbeat = change_to s
 
-abbrev pub message_due : StoreState → ℕ → Msg → Due
-message_due s link (msg.Dump session digest) = Reply link session digest
-message_due s link (msg.Reply session b0 pairs wanted withheld) = reply_due link wanted (current s.sessions link session Dumped)
-message_due s link (msg.Push session pairs) = Ack link session
-message_due s link _ = Nothing
+-- each item; those from Up on a store doesn't take
+unfoldable pub item_change : StoreState → Item → Change
+item_change s (Tick at) = change_to (record s { moment = at; journal = expire s.journal at })
+item_change s (Set pair) = change_to (record s { journal = offer s.journal pair s.moment origin.Local })
+item_change s (PeerUp link peer) = record { store = record s { peers = with_link s.peers link peer }; response = Start link; passed = [] }
+item_change s (PeerDown link) = change_to (record s { peers = without_link s.peers link; sessions = without_session s.sessions link })
+item_change s (Sync link) = record { store = s; response = Start link; passed = [] }
+item_change s Restart = record {
+  store = record s { journal = s.journal ++ Cleared s.moment ∷ []; sessions = without_sessions s.sessions };
+  response = StartAll;
+  passed = [];
+}
+item_change s (Net link from msg) = message_change s link from msg
+item_change s Up = change_to s
+item_change s Down = change_to s
+item_change s (Script from acts) = change_to s
+item_change s (Persist key value ttl) = change_to s
+item_change s (Unset key) = change_to s
+item_change s (Drain on) = change_to s
+item_change s (LinkDrain link on) = change_to s
+item_change s (Metric link metric) = change_to s
+item_change s (Advertise entry) = change_to s
+item_change s (Withdraw prefix) = change_to s
+item_change s (Aggregate prefix least) = change_to s
+item_change s (Get key) = change_to s
+item_change s (Ask prefix) = change_to s
+item_change s (LinkUp link) = change_to s
+item_change s (LinkDown link) = change_to s
+item_change s (NeighbourUp link peer peer_if) = change_to s
+item_change s (NeighbourDown link) = change_to s
+item_change s (Entry entry) = change_to s
+item_change s (Routes delta) = change_to s
 
--- What an item has to be answered with: a peer that comes, and a user's order, with a full sync on the link; a restart with one on each
--- peer's link; a dump with a reply, whoever sent it; a reply that isn't stale with a push; a push with an acknowledgement.
-abbrev pub due_of : StoreState → Item → Due
-due_of s (PeerUp link peer) = Start link
-due_of s (Sync link) = Start link
-due_of s Restart = StartAll
-due_of s (Net link from msg) = message_due s link msg
-due_of s _ = Nothing
+-- ---- how it is responded to
 
 -- a message on a link, if there is one
 abbrev pub message_on : List ℕ → ℕ → Option Msg → List Output
 message_on me link None = []
-message_on me link (Some msg) = To (FIRST_LINK_PORT + link) (Net link me msg) ∷ []
+message_on me link (Some msg) = To (first_link_port + link) (Net link me msg) ∷ []
 
--- the full syncs that run after an answer, and what is sent
-abbrev pub Answered : Type 0
-Answered = SessionsState × List Output
+-- the full syncs that run after a response, and what is sent
+abbrev pub SyncsAndOutputs : Type 0
+SyncsAndOutputs = SessionsState × List Output
 
 -- a full sync is started with a peer
-unfoldable pub start_with : List ℕ → List JournalEntry → SessionsState → ℕ × List ℕ → Answered
+unfoldable pub start_with : List ℕ → List JournalEntry → SessionsState → ℕ × List ℕ → SyncsAndOutputs
 start_with me journal sessions peer =
-    let after = started sessions peer.0 peer.1 (length journal) in
+    let after = with_started_session sessions peer.0 peer.1 (length journal) in
     (after, message_on me peer.0 (Some (dump_message after.last journal)))
 
 -- with the peer of a link, if it has one
-abbrev pub start_on : List ℕ → List JournalEntry → SessionsState → ℕ → Option (List ℕ) → Answered
+abbrev pub start_on : List ℕ → List JournalEntry → SessionsState → ℕ → Option (List ℕ) → SyncsAndOutputs
 start_on me journal sessions link None = (sessions, [])
 start_on me journal sessions link (Some peer) = start_with me journal sessions (link, peer)
 
 -- with each of these peers, in the order of links
-abbrev pub start_each : List ℕ → List JournalEntry → SessionsState → List (ℕ × List ℕ) → Answered
+abbrev pub start_each : List ℕ → List JournalEntry → SessionsState → List (ℕ × List ℕ) → SyncsAndOutputs
 start_each me journal sessions [] = (sessions, [])
 start_each me journal sessions (peer ∷ peers) =
     let first = start_with me journal sessions peer in
@@ -149,39 +173,40 @@ start_each me journal sessions (peer ∷ peers) =
     (others.0, first.1 ++ others.1)
 
 -- what was wanted is pushed, where a session runs on the link
-abbrev pub push_on : List ℕ → List JournalEntry → ℕ → SessionsState → ℕ → List (List ℕ) → Option Session → Answered
+abbrev pub push_on : List ℕ → List JournalEntry → ℕ → SessionsState → ℕ → List (List ℕ) → Option Session → SyncsAndOutputs
 push_on me journal now sessions link wanted None = (sessions, [])
 push_on me journal now sessions link wanted (Some session) =
     (after_push sessions link (withheld_count journal now wanted) (Some session), message_on me link (Some (push_message journal now session.number wanted)))
 
--- what a turn has to answer, by the journal as it is now
-unfoldable pub answer : StoreState → Due → Answered
-answer s Nothing = (s.sessions, [])
-answer s (Start link) = start_on s.me s.journal s.sessions link (lookup (is_at (nat_cmp link)) s.peers)
-answer s StartAll = start_each s.me s.journal s.sessions s.peers
-answer s (Reply link session digest) = (s.sessions, message_on s.me link (Some (reply_message s.journal s.moment session digest)))
-answer s (Push link wanted) = push_on s.me s.journal s.moment s.sessions link wanted (session_on s.sessions link)
-answer s (Ack link session) = (s.sessions, message_on s.me link (Some (ack_message session)))
+-- the response, by the journal as the item left it
+unfoldable pub respond : StoreState → Response → SyncsAndOutputs
+respond s Nothing = (s.sessions, [])
+respond s (Start link) = start_on s.me s.journal s.sessions link (at_link s.peers link)
+respond s StartAll = start_each s.me s.journal s.sessions s.peers
+respond s (Reply link session digest) = (s.sessions, message_on s.me link (Some (reply_message s.journal s.moment session digest)))
+respond s (Push link wanted) = push_on s.me s.journal s.moment s.sessions link wanted (session_on s.sessions link)
+respond s (Ack link session) = (s.sessions, message_on s.me link (Some (ack_message session)))
+
+-- a push stands only where the reply of its session has arrived
+abbrev pub may_respond : StoreState → Response → Bool
+may_respond s Nothing = true
+may_respond s (Start link) = true
+may_respond s StartAll = true
+may_respond s (Reply link session digest) = true
+may_respond s (Push link wanted) = may_push (session_on s.sessions link)
+may_respond s (Ack link session) = true
 
 -- ---- what is flooded
 
--- the nodes that what an item floods on has passed: those that its flood names, or its sender
-abbrev pub message_passed : List ℕ → Msg → List (List ℕ)
-message_passed from (Flood passed pairs) = passed
-message_passed from (msg.Reply session b0 pairs wanted withheld) = from ∷ []
-message_passed from (msg.Push session pairs) = from ∷ []
-message_passed from _ = []
-
-abbrev pub passed_by : Item → List (List ℕ)
-passed_by (Net link from msg) = message_passed from msg
-passed_by _ = []
+-- the origin with which an entry merged the key, if it did
+abbrev pub merge_origin : List ℕ → JournalEntry → Option Origin
+merge_origin key (Merged pair at origin) = if bytes_eq pair.key key then Some origin else None
+merge_origin key (Expired name at) = None
+merge_origin key (Cleared at) = None
 
 -- the origin of the last of these entries that merged the key
-abbrev pub origin_after : List ℕ → Option Origin → List JournalEntry → Option Origin
-origin_after key found [] = found
-origin_after key found (Merged pair at origin ∷ later) = origin_after key (if bytes_eq pair.key key then Some origin else found) later
-origin_after key found (Expired name at ∷ later) = origin_after key found later
-origin_after key found (Cleared at ∷ later) = origin_after key found later
+abbrev pub last_origin : List ℕ → List JournalEntry → Option Origin
+last_origin key entries = last_or None (filter_map (merge_origin key) entries)
 
 abbrev pub begins_here : Origin → Bool
 begins_here origin.Local = true
@@ -192,7 +217,7 @@ begins_here origin.SyncPush = false
 
 -- the key was merged at this node's own wish
 unfoldable pub is_own : List JournalEntry → List ℕ → Bool
-is_own entries key = option_map_or begins_here (origin_after key None entries) false
+is_own entries key = option_map_or begins_here (last_origin key entries) false
 
 -- Of the entries of a turn, read as a journal: the keys that were merged at this node's own wish, and the others.
 unfoldable pub own_keys : List JournalEntry → List (List ℕ)
@@ -222,14 +247,10 @@ floods s entries passed = flat_map (floods_to s.me s.journal s.moment (relayed_k
 abbrev pub entries_since : StoreState → StoreState → List JournalEntry
 entries_since before after = drop (length before.journal) after.journal
 
--- One turn of a store: the state after it, and what is sent: first what the item has to be answered with, and then the floods.
+-- One turn of a store: the state after it, and what is sent: first the response, and then the floods.
 unfoldable pub store_step : StoreState → Item → StoreState × List Output
 store_step s item =
-    let after = input_step s item in
-    let answered = answer after (due_of s item) in
-    (record after { sessions = answered.0 }, answered.1 ++ floods after (entries_since s after) (passed_by item))
-
--- a push is due only where its session has met its reply
-abbrev pub can_answer : StoreState → Due → Bool
-can_answer s (Push link wanted) = may_push (session_on s.sessions link)
-can_answer s _ = true
+    let change = item_change s item in
+    let after = change.store in
+    let responded = respond after change.response in
+    (record after { sessions = responded.0 }, responded.1 ++ floods after (entries_since s after) change.passed)

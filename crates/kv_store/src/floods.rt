@@ -1,9 +1,10 @@
 //! What a turn floods: which keys, to whom, and in which order.
 
-ghost use Rattle.std.specs.Prelude.{◌≡◌, ◌++◌, ◌<◌, ◌^◌, All, None, IfOk, OnOk};
+ghost use Rattle.std.specs.Prelude.{◌≡◌, ◌++◌, ◌<◌, All, IfOk, OnOk};
 ghost use Rattle.std.specs.List.{flat_map};
 ghost use Rattle.std.specs.Map.{keys_of};
-ghost use Rattle.kv_store.specs.Store.{origin_after, begins_here, is_own, own_keys, relayed_keys, message_on, relay_to, begin_to};
+ghost use Rattle.or_actor.specs.Fits.{link_number_end};
+ghost use Rattle.kv_store.specs.Store.{merge_origin, last_origin, begins_here, is_own, own_keys, relayed_keys, message_on, relay_to, begin_to};
 
 use crate::answers::send_on;
 use kv_flood::{flood_message, flood_target};
@@ -13,16 +14,26 @@ use or_base::{JournalEntry, Key, Msg, Name, NoMemory, Origin, held_keys};
 use std::alloc::Global;
 use std::collections::BTreeMap;
 
+/// The origin with which the entry merged the key, if it did.
+fn merge_origin(entry: &JournalEntry, key: &Key) -> Option<Origin>
+    ensures { result ≡ merge_origin key.now entry.now }
+{
+    if let JournalEntry::Merged { pair, origin, .. } = entry {
+        if pair.key.as_str() == key.as_str() {
+            return Some(*origin);
+        }
+    }
+    None
+}
+
 /// The origin of the last of these entries that merged the key.
-fn origin_of(entries: &[JournalEntry], key: &Key) -> Option<Origin>
-    ensures { result ≡ origin_after key.now None entries.now }
+fn last_origin(entries: &[JournalEntry], key: &Key) -> Option<Origin>
+    ensures { result ≡ last_origin key.now entries.now }
 {
     let mut found = None;
     for entry in entries {
-        if let JournalEntry::Merged { pair, origin, .. } = entry {
-            if pair.key.as_str() == key.as_str() {
-                found = Some(*origin);
-            }
+        if let Some(origin) = merge_origin(entry, key) {
+            found = Some(origin);
         }
     }
     found
@@ -40,7 +51,7 @@ fn begins_here(origin: Origin) -> bool
 fn is_own(entries: &[JournalEntry], key: &Key) -> bool
     ensures { result ≡ is_own entries.now key.now }
 {
-    match origin_of(entries, key) {
+    match last_origin(entries, key) {
         Some(origin) => begins_here(origin),
         None => false,
     }
@@ -76,7 +87,7 @@ pub fn relayed_keys(alloc: Global, entries: &[JournalEntry]) -> Result<Vec<Key>,
 
 /// Sends a message on a link, if there is one.
 fn send_if(me: &Name, link: u32, msg: Option<Msg>, out: &mut Outbox) -> Result<(), NoMemory>
-    requires { link < 2 ^ 31 }
+    requires { link < link_number_end }
     ensures sent { OnOk result (out.new ≡ out.old ++ message_on me.now link msg) }
 {
     if let Some(msg) = msg {
@@ -110,7 +121,7 @@ impl Floods<'_> {
         peer: &Name,
         out: &mut Outbox,
     ) -> Result<(), NoMemory>
-        requires { link < 2 ^ 31 }
+        requires { link < link_number_end }
         ensures { OnOk result (out.new ≡ out.old
             ++ relay_to self.now.me.now self.now.table.now self.now.moment self.now.relayed.now self.now.passed.now (link, peer.now)) }
     {
@@ -131,7 +142,7 @@ impl Floods<'_> {
         peer: &Name,
         out: &mut Outbox,
     ) -> Result<(), NoMemory>
-        requires { link < 2 ^ 31 }
+        requires { link < link_number_end }
         ensures { OnOk result (out.new ≡ out.old ++ begin_to self.now.me.now self.now.table.now self.now.moment self.now.own.now (link, peer.now)) }
     {
         let _peer = peer;
@@ -148,7 +159,7 @@ impl Floods<'_> {
         peer: &Name,
         out: &mut Outbox,
     ) -> Result<(), NoMemory>
-        requires { link < 2 ^ 31 }
+        requires { link < link_number_end }
         ensures { OnOk result (out.new ≡ out.old ++ flooded_to self.now (link, peer.now)) }
     {
         self.relay_to(alloc, link, peer, out)?;
@@ -163,7 +174,7 @@ impl Floods<'_> {
         peers: &BTreeMap<u32, Name>,
         out: &mut Outbox,
     ) -> Result<(), NoMemory>
-        requires { All (λ link. link < 2 ^ 31) (keys_of peers.now.entries) }
+        requires { All (λ link. link < link_number_end) (keys_of peers.now.entries) }
         ensures { OnOk result (out.new ≡ out.old ++ flat_map (flooded_to self.now) peers.now.entries) }
     {
         for (link, peer) in peers {

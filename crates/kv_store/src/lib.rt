@@ -2,23 +2,23 @@
 //!
 //! A store keeps its journal in a `KvTable` and its peers by link. An item changes the journal or the peers: a tick sets
 //! the moment and lets expire what is due, a set offers a pair, a flood that hasn't passed this node offers its pairs, as do
-//! the messages of a full sync, peers come and go, and a restart loses what is held. Then the item is answered: a peer that
-//! comes, an order of the user and a restart with a full sync, and its messages with the next one. Then what was merged is
-//! flooded with the value now held: a key that this node set begins a flood to every peer, and a key that came from a peer
-//! is passed on to the peers that the flood hasn't passed. The step is in `specs/Store.antt`, over the journal, the peers and
-//! the running sessions alone, and `KvModule` does exactly that step. Its type keeps that the links of its peers have
-//! numbers below 2^31, so that each has a port.
+//! the messages of a full sync, peers come and go, and a restart loses what is held. Then the store responds to the item: to
+//! a peer that comes, an order of the user and a restart with a full sync, and to its messages with the next one. Then what
+//! was merged is flooded with the value now held: a key that this node set begins a flood to every peer, and a key that came
+//! from a peer is passed on to the peers that the flood hasn't passed. The step is in `specs/Store.antt`, over the journal,
+//! the peers and the running sessions alone, with a row for each item and each message, and `KvModule` does exactly that
+//! step. Its type keeps that the links of its peers have numbers below 2^31, so that each has a port.
 //!
-//! The files: `offers` (pairs offered in order), `due` (what an item is to be answered with), `answers` (the messages of full
+//! The files: `offers` (pairs offered in order), `response` (what a store has to respond with), `answers` (the messages of full
 //! syncs), `floods` (what a turn floods), `store` (the module). Owned keys aren't built yet: such an item changes nothing.
 #![tactic(auto)]
 
 ghost use Rattle.kv_store.specs.Growth.{JournalsGrow};
 
 mod answers;
-mod due;
 mod floods;
 mod offers;
+mod response;
 mod store;
 
 pub use store::KvModule;

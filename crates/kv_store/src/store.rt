@@ -1,17 +1,16 @@
 ghost use Rattle.std.specs.Prelude.{◌≡◌, ◌++◌, [], ◌∷◌, ◌<◌, ◌≤◌, ◌^◌, length, drop, if◌then◌else◌, is_ok, IsTrue, IfOk, OnOk};
-ghost use Rattle.std.specs.Ordering.{nat_cmp};
-ghost use Rattle.std.specs.BTreeMap.{insert_entry, is_at};
-ghost use Rattle.std.specs.Map.{remove_entry};
-ghost use Rattle.kv_store.specs.declared.due.Due.TheVariants.{Nothing, Push};
+ghost use Rattle.or_base.specs.ByLink.{with_link, without_link};
+ghost use Rattle.or_actor.specs.Fits.{link_number_end};
+ghost use Rattle.kv_store.specs.declared.response.Response.TheVariants.{Nothing, Push};
 
 use crate::answers::{push_on, send_on, start_each, start_with};
-use crate::due::{Due, Remaining};
 use crate::floods::{Floods, own_keys, relayed_keys};
-use crate::offers::{is_among, offer_all};
+use crate::offers::offer_all;
+use crate::response::{Remaining, Response};
 use kv_sync::{Sessions, ack, reply_to};
 use kv_table::KvTable;
 use or_actor::{Module, Outbox, has_small_link};
-use or_base::{Item, Key, Msg, Name, NoMemory, Origin, Pair, Seq, SyncDone};
+use or_base::{Item, Key, Msg, Name, NoMemory, Origin, Pair, Seq, SyncDone, is_among};
 use std::alloc::Global;
 use std::collections::BTreeMap;
 use std::marker::Model;
@@ -25,14 +24,14 @@ fn one(alloc: Global, name: Name) -> Result<Seq<Name>, NoMemory>
     Ok(Seq::from_vec(names))
 }
 
-/// What a reply wants is to be pushed where it met its session.
-fn push_due(met: bool, link: u32, wanted: Seq<Key>) -> Due
-    ensures { result ≡ (if met then Push link wanted else Nothing) }
+/// What a reply wants is to be pushed where it arrived for its session.
+fn response_to_reply(arrived: bool, link: u32, wanted: Seq<Key>) -> Response
+    ensures { result ≡ (if arrived then Push link wanted else Nothing) }
 {
-    if met {
-        Due::Push { link, wanted }
+    if arrived {
+        Response::Push { link, wanted }
     } else {
-        Due::Nothing
+        Response::Nothing
     }
 }
 
@@ -50,15 +49,16 @@ pub struct KvModule {
 }
 
 impl Model for KvModule {
-    ghost use Rattle.std.specs.Prelude.{All, ◌<◌, ◌^◌};
+    ghost use Rattle.std.specs.Prelude.{All, ◌<◌};
     ghost use Rattle.std.specs.BTreeMap.{keys};
+    ghost use Rattle.or_actor.specs.Fits.{link_number_end};
     ghost use Rattle.kv_store.specs.Store.{StoreState};
 
     ghost Value = { StoreState };
 
     ghost view = { λ m. record { me = m.me; journal = m.table; moment = m.moment; peers = m.peers.entries; sessions = m.sessions; stale = m.stale; done = m.done.items } };
 
-    ghost invariant = { λ m. All (λ link. link < 2 ^ 31) (keys m.peers) };
+    ghost invariant = { λ m. All (λ link. link < link_number_end) (keys m.peers) };
 }
 
 impl KvModule {
@@ -68,8 +68,8 @@ impl KvModule {
     ghost use Rattle.or_actor.specs.Fits.{has_small_link, have_small_links};
     ghost use Rattle.kv_sync.specs.declared.session.SyncPhase.TheVariants.{Dumped, Pushed};
     ghost use Rattle.kv_sync.specs.Sessions.{without_session, without_sessions, current};
-    ghost use Rattle.kv_store.specs.Store.{new_store, offered, flood_taken, staled, reply_taken, ack_taken, message_input, message_due, message_passed, input_step, due_of, passed_by, answer, can_answer, floods, store_step};
-    ghost use Rattle.kv_store.specs.Due.{is_small_due};
+    ghost use Rattle.kv_store.specs.Store.{new_store, store_after_offers, store_after_flood, with_stale_counted, store_after_reply, store_after_ack, message_change, item_change, respond, may_respond, floods, store_step};
+    ghost use Rattle.kv_store.specs.Response.{is_on_small_link};
     ghost use Rattle.kv_table.specs.Expiry.{expire};
 
     /// The store of a node as it starts.
@@ -95,7 +95,7 @@ impl KvModule {
         &self.table
     }
 
-    /// How many stale messages the store has met. It takes no memory.
+    /// How many stale messages have arrived at the store. It takes no memory.
     pub fn stale(&self) -> u64
         ensures { result ≡ self.now.stale }
     {
@@ -129,8 +129,8 @@ impl KvModule {
     /// The node at the other end of a link can be reached.
     #[tactic(auto, using(crate::proofs::Peers::small_with))]
     fn take_peer(&mut self, link: u32, peer: Name) -> Result<(), NoMemory>
-        requires { link < 2 ^ 31 }
-        ensures { OnOk result (self.new ≡ record self.old { peers = insert_entry nat_cmp self.old.peers link peer }) }
+        requires { link < link_number_end }
+        ensures { OnOk result (self.new ≡ record self.old { peers = with_link self.old.peers link peer }) }
     {
         self.peers.insert(link, peer)?;
         Ok(())
@@ -139,7 +139,7 @@ impl KvModule {
     /// It can be reached no longer, and a full sync with it is over.
     #[tactic(auto, using(crate::proofs::Peers::small_without))]
     fn drop_peer(&mut self, link: u32)
-        ensures { self.new ≡ record self.old { peers = remove_entry (is_at (nat_cmp link)) self.old.peers; sessions = without_session self.old.sessions link } }
+        ensures { self.new ≡ record self.old { peers = without_link self.old.peers link; sessions = without_session self.old.sessions link } }
     {
         let _peer = self.peers.remove(&link);
         self.sessions.drop_link(link);
@@ -156,14 +156,14 @@ impl KvModule {
 
     /// Offers pairs that came from a peer, in order.
     fn offer(&mut self, pairs: Vec<Pair>, origin: Origin) -> Result<(), NoMemory>
-        ensures { OnOk result (self.new ≡ offered self.old pairs.items origin) }
+        ensures { OnOk result (self.new ≡ store_after_offers self.old pairs.items origin) }
     {
         offer_all(&mut self.table, pairs, self.moment, origin)
     }
 
     /// Takes a flood.
     fn take_flood(&mut self, passed: &[Name], pairs: Vec<Pair>) -> Result<(), NoMemory>
-        ensures { OnOk result (self.new ≡ flood_taken self.old passed.now pairs.items) }
+        ensures { OnOk result (self.new ≡ store_after_flood self.old passed.now pairs.items) }
     {
         if is_among(&self.me, passed) {
             return Ok(());
@@ -171,9 +171,9 @@ impl KvModule {
         self.offer(pairs, Origin::Flood)
     }
 
-    /// A message was stale.
+    /// Counts a stale message; the count saturates.
     fn count_stale(&mut self)
-        ensures { self.new ≡ staled self.old }
+        ensures { self.new ≡ with_stale_counted self.old }
     {
         self.stale = self.stale.saturating_add(1);
     }
@@ -187,8 +187,8 @@ impl KvModule {
         pairs: Vec<Pair>,
         withheld: u64,
     ) -> Result<bool, NoMemory>
-        ensures state { OnOk result (self.new ≡ reply_taken self.old link b0 pairs.items withheld (current self.old.sessions link session Dumped)) }
-        ensures met { IfOk result (λ met. met ≡ is_ok (current self.old.sessions link session Dumped)) }
+        ensures state { OnOk result (self.new ≡ store_after_reply self.old link b0 pairs.items withheld (current self.old.sessions link session Dumped)) }
+        ensures arrived { IfOk result (λ arrived. arrived ≡ is_ok (current self.old.sessions link session Dumped)) }
     {
         match self.sessions.take_reply(link, session, b0, withheld) {
             Ok(()) => {
@@ -204,7 +204,7 @@ impl KvModule {
 
     /// Takes an acknowledgement: the sync is finished, unless it is stale.
     fn take_ack(&mut self, link: u32, session: u64) -> Result<(), NoMemory>
-        ensures { OnOk result (self.new ≡ ack_taken self.old link (current self.old.sessions link session Pushed)) }
+        ensures { OnOk result (self.new ≡ store_after_ack self.old link (current self.old.sessions link session Pushed)) }
     {
         self.done.reserve(1)?;
         match self.sessions.take_ack(link, session) {
@@ -216,21 +216,21 @@ impl KvModule {
 
     /// Takes a message of the node `from`.
     fn take_message(&mut self, link: u32, from: Name, msg: Msg) -> Result<Remaining, NoMemory>
-        ensures state { OnOk result (self.new ≡ message_input self.old link msg) }
-        ensures due { IfOk result (λ left. left.due ≡ message_due self.old link msg) }
-        ensures passed { IfOk result (λ left. left.passed ≡ message_passed from msg) }
+        ensures state { OnOk result (self.new ≡ (message_change self.old link from msg).store) }
+        ensures response { IfOk result (λ left. left.response ≡ (message_change self.old link from msg).response) }
+        ensures passed { IfOk result (λ left. left.passed ≡ (message_change self.old link from msg).passed) }
     {
         let nothing = Seq::from_vec(Vec::new(self.alloc));
         match msg {
             Msg::Flood { passed, pairs } => {
                 self.take_flood(passed.as_slice(), pairs.into_vec())?;
                 Ok(Remaining {
-                    due: Due::Nothing,
+                    response: Response::Nothing,
                     passed,
                 })
             }
             Msg::Dump { session, digest } => Ok(Remaining {
-                due: Due::Reply {
+                response: Response::Reply {
                     link,
                     session,
                     digest,
@@ -244,88 +244,88 @@ impl KvModule {
                 wanted,
                 withheld,
             } => {
-                let met = self.take_reply(link, session, b0, pairs.into_vec(), withheld)?;
+                let pairs = pairs.into_vec();
+                let arrived = self.take_reply(link, session, b0, pairs, withheld)?;
                 Ok(Remaining {
-                    due: push_due(met, link, wanted),
+                    response: response_to_reply(arrived, link, wanted),
                     passed: one(self.alloc, from)?,
                 })
             }
             Msg::Push { session, pairs } => {
                 self.offer(pairs.into_vec(), Origin::SyncPush)?;
                 Ok(Remaining {
-                    due: Due::Ack { link, session },
+                    response: Response::Ack { link, session },
                     passed: one(self.alloc, from)?,
                 })
             }
             Msg::Ack { session } => {
                 self.take_ack(link, session)?;
                 Ok(Remaining {
-                    due: Due::Nothing,
+                    response: Response::Nothing,
                     passed: nothing,
                 })
             }
             _other => Ok(Remaining {
-                due: Due::Nothing,
+                response: Response::Nothing,
                 passed: nothing,
             }),
         }
     }
 
     /// Takes an item, and gives what is left of the turn.
-    #[tactic(auto, unfolding(crate::specs::Store::input_step))]
+    #[tactic(auto, unfolding(crate::specs::Store::item_change))]
     fn take(&mut self, item: Item) -> Result<Remaining, NoMemory>
         requires { IsTrue (has_small_link item) }
-        ensures state { OnOk result (self.new ≡ input_step self.old item) }
-        ensures due { IfOk result (λ left. left.due ≡ due_of self.old item) }
-        ensures passed { IfOk result (λ left. left.passed ≡ passed_by item) }
+        ensures state { OnOk result (self.new ≡ (item_change self.old item).store) }
+        ensures response { IfOk result (λ left. left.response ≡ (item_change self.old item).response) }
+        ensures passed { IfOk result (λ left. left.passed ≡ (item_change self.old item).passed) }
     {
-        let mut due = Due::Nothing;
+        let mut response = Response::Nothing;
         match item {
             Item::Tick { at } => self.take_tick(at)?,
             Item::Set { pair } => self.take_set(pair)?,
             Item::PeerUp { link, peer } => {
                 self.take_peer(link, peer)?;
-                due = Due::Start { link };
+                response = Response::Start { link };
             }
             Item::PeerDown { link } => self.drop_peer(link),
-            Item::Sync { link } => due = Due::Start { link },
+            Item::Sync { link } => response = Response::Start { link },
             Item::Restart => {
                 self.restart()?;
-                due = Due::StartAll;
+                response = Response::StartAll;
             }
             Item::Net { link, from, msg } => return Ok(self.take_message(link, from, msg)?),
             _other => {}
         }
         Ok(Remaining {
-            due,
+            response,
             passed: Seq::from_vec(Vec::new(self.alloc)),
         })
     }
 
-    /// Answers the item.
-    #[tactic(auto, unfolding(crate::specs::Store::answer), using(crate::proofs::Answering::small_answer))]
-    fn answer(&mut self, due: Due, out: &mut Outbox) -> Result<(), NoMemory>
-        requires small { IsTrue (is_small_due due) }
-        requires pushed { IsTrue (can_answer self.old due) }
-        ensures state { OnOk result (self.new ≡ record self.old { sessions = (answer self.old due).0 }) }
-        ensures sent { OnOk result (out.new ≡ out.old ++ (answer self.old due).1) }
-        ensures small { IsTrue (have_small_links (answer self.old due).1) }
+    /// Responds to the item.
+    #[tactic(auto, unfolding(crate::specs::Store::respond))]
+    fn respond(&mut self, response: Response, out: &mut Outbox) -> Result<(), NoMemory>
+        requires small { IsTrue (is_on_small_link response) }
+        requires arrived { IsTrue (may_respond self.old response) }
+        ensures state { OnOk result (self.new ≡ record self.old { sessions = (respond self.old response).0 }) }
+        ensures sent { OnOk result (out.new ≡ out.old ++ (respond self.old response).1) }
     {
-        match due {
-            Due::Nothing => {}
-            Due::Start { link } => {
+        match response {
+            Response::Nothing => {}
+            Response::Start { link } => {
                 if let Some(peer) = self.peers.get(&link) {
                     start_with(&self.me, &self.table, &mut self.sessions, link, peer, out)?;
                 }
             }
-            Due::StartAll => start_each(
+            Response::StartAll => start_each(
                 &self.me,
                 &self.table,
                 &mut self.sessions,
                 &self.peers,
                 out,
             )?,
-            Due::Reply {
+            Response::Reply {
                 link,
                 session,
                 digest,
@@ -334,7 +334,7 @@ impl KvModule {
                 let msg = reply_to(self.alloc, &self.table, self.moment, session, rows)?;
                 send_on(&self.me, link, msg, out)?;
             }
-            Due::Push { link, wanted } => {
+            Response::Push { link, wanted } => {
                 let keys = wanted.as_slice();
                 let now = self.moment;
                 push_on(
@@ -347,17 +347,16 @@ impl KvModule {
                     out,
                 )?;
             }
-            Due::Ack { link, session } => send_on(&self.me, link, ack(session), out)?,
+            Response::Ack { link, session } => send_on(&self.me, link, ack(session), out)?,
         }
         Ok(())
     }
 
     /// Floods what was merged since the journal had so many entries.
-    #[tactic(auto, unfolding(crate::specs::Store::floods), using(crate::proofs::Peers::small_floods))]
+    #[tactic(auto, unfolding(crate::specs::Store::floods))]
     fn flood(&self, entries: usize, passed: &[Name], out: &mut Outbox) -> Result<(), NoMemory>
         requires { entries ≤ length self.now.journal }
-        ensures sent { OnOk result (out.new ≡ out.old ++ floods self.now (drop entries self.now.journal) passed.now) }
-        ensures small { OnOk result (IsTrue (have_small_links (floods self.now (drop entries self.now.journal) passed.now))) }
+        ensures { OnOk result (out.new ≡ out.old ++ floods self.now (drop entries self.now.journal) passed.now) }
     {
         let new = &self.table.journal()[entries..];
         let relayed = relayed_keys(self.alloc, new)?;
@@ -375,16 +374,16 @@ impl KvModule {
     }
 
     /// One turn.
-    #[tactic(auto, unfolding(crate::specs::Store::store_step), using(crate::proofs::Growth::journal_grows, crate::proofs::Answering::answering, crate::proofs::Turn::turn))]
-    pub fn step(&mut self, item: Item, out: &mut Outbox) -> Result<(), NoMemory>
+    #[tactic(auto, unfolding(crate::specs::Store::store_step), using(crate::proofs::Growth::journal_grows, crate::proofs::Responding::responding, crate::proofs::Turn::turn))]
+    fn step(&mut self, item: Item, out: &mut Outbox) -> Result<(), NoMemory>
         requires { IsTrue (has_small_link item) }
         ensures state { OnOk result (self.new ≡ (store_step self.old item).0) }
         ensures sent { OnOk result (out.new ≡ out.old ++ (store_step self.old item).1) }
         ensures small { OnOk result (IsTrue (have_small_links (store_step self.old item).1)) }
     {
         let entries = self.table.journal().len();
-        let Remaining { due, passed } = self.take(item)?;
-        self.answer(due, out)?;
+        let Remaining { response, passed } = self.take(item)?;
+        self.respond(response, out)?;
         self.flood(entries, passed.as_slice(), out)?;
         Ok(())
     }
@@ -392,6 +391,7 @@ impl KvModule {
 
 impl Module for KvModule {
     ghost use Rattle.or_actor.specs.Fits.{has_small_link};
+    ghost use Rattle.or_actor.specs.Steps.{finds_nothing};
     ghost use Rattle.kv_store.specs.Store.{StoreState, store_step};
 
     ghost State = { StoreState };
@@ -399,6 +399,8 @@ impl Module for KvModule {
     ghost state = { λ m. m };
 
     ghost may_take = { λ s item. has_small_link item };
+
+    ghost may_find = { λ s item at. finds_nothing at };
 
     ghost step = { λ s lane item at. store_step s item };
 

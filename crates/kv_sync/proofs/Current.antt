@@ -9,7 +9,7 @@ use Rattle.kv_sync.specs.declared.session.SyncPhase.{SyncPhase}
 use Rattle.kv_sync.specs.declared.session.SyncPhase.TheVariants.{Dumped, Pushed}
 use Rattle.kv_sync.specs.declared.session.Session.{Session}
 use Rattle.kv_sync.specs.declared.session.Stale.{Stale}
-use Rattle.kv_sync.specs.Sessions.{SessionsState, session_on, current, current_if, current_of, is_in, stale_of, pushed, withholding, done_of, after_reply}
+use Rattle.kv_sync.specs.Sessions.{SessionsState, session_on, current, current_if, current_of, is_in, stale_of, session_after_reply, with_more_withheld, done_of, after_reply}
 use Rattle.kv_sync.specs.Running.{AreNumbered}
 use Rattle.kv_sync.proofs.Numbers.{some_not_none, numbered_kept}
 
@@ -53,25 +53,25 @@ written_at link change running after s found written =
     some_of (λ s. after ≡ insert_entry nat_cmp running link (change s)) (lookup (is_at (nat_cmp link)) running) s found written
 
 pub reply_numbered : (last link number b0 withheld : ℕ) (running after : List (ℕ × Session)) → IsCurrent (lookup (is_at (nat_cmp link)) running) number Dumped
-    → IsWritten link (λ s. pushed s b0 withheld) running after → AreNumbered last running → AreNumbered last after
+    → IsWritten link (λ s. session_after_reply s b0 withheld) running after → AreNumbered last running → AreNumbered last after
 reply_numbered last link number b0 withheld running after is written numbered =
-    numbered_kept last link (pushed is.session b0 withheld) is.session running after
-    (written_at link (λ s. pushed s b0 withheld) running after is.session is.found written) is.found refl numbered
+    numbered_kept last link (session_after_reply is.session b0 withheld) is.session running after
+    (written_at link (λ s. session_after_reply s b0 withheld) running after is.session is.found written) is.found refl numbered
 
 pub reply_state : (s : SessionsState) (link number b0 withheld : ℕ) (after : List (ℕ × Session)) → IsCurrent (session_on s link) number Dumped
-    → IsWritten link (λ t. pushed t b0 withheld) s.running after
+    → IsWritten link (λ t. session_after_reply t b0 withheld) s.running after
     → record { last = s.last; running = after } ≡ after_reply s link b0 withheld (current s link number Dumped)
 unfolding current
 reply_state s link number b0 withheld after is written =
-    ap (λ running. record { last = s.last; running = running }) (written_at link (λ t. pushed t b0 withheld) s.running after is.session is.found written)
+    ap (λ running. record { last = s.last; running = running }) (written_at link (λ t. session_after_reply t b0 withheld) s.running after is.session is.found written)
     ∙ sym (ap (after_reply s link b0 withheld) is.current)
 
 -- ---- a push
 
 pub push_numbered : (last link more : ℕ) (s : Session) (running after : List (ℕ × Session)) → lookup (is_at (nat_cmp link)) running ≡ Some s
-    → IsWritten link (λ t. withholding t more) running after → AreNumbered last running → AreNumbered last after
+    → IsWritten link (λ t. with_more_withheld t more) running after → AreNumbered last running → AreNumbered last after
 push_numbered last link more s running after found written numbered =
-    numbered_kept last link (withholding s more) s running after (written_at link (λ t. withholding t more) running after s found written) found refl numbered
+    numbered_kept last link (with_more_withheld s more) s running after (written_at link (λ t. with_more_withheld t more) running after s found written) found refl numbered
 
 -- ---- an acknowledgement
 

@@ -3,3 +3,4 @@ pub mod Numbers
 pub mod Written
 pub mod Current
 pub mod Law
+pub mod Onward

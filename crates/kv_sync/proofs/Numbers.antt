@@ -8,8 +8,8 @@ use Rattle.std.specs.declared.cmp.Ordering.{Ordering}
 use Rattle.std.specs.declared.cmp.Ordering.TheVariants.{Less, Equal, Greater}
 use Rattle.std.specs.BTreeMap.{insert_entry, is_at}
 use Rattle.std.proofs.lemmas.Cmp.{ranked}
+use Rattle.or_base.specs.Counting.{saturate}
 use Rattle.kv_sync.specs.declared.session.Session.{Session}
-use Rattle.kv_sync.specs.Sessions.{capped}
 use Rattle.kv_sync.specs.Running.{IsGiven, IsApart, AreApart, AreNumbered}
 
 -- no session of the entries has this number
@@ -150,7 +150,7 @@ pub numbered_none : (last : ℕ) → last < 2 ^ 64 → AreNumbered last []
 numbered_none last fits = record { fits = fits; given = tt; apart = λ within. tt }
 
 -- a session starts, with the next number
-pub numbered_started : (last next link : ℕ) (s : Session) (running after : List (ℕ × Session)) → next ≡ capped (last + 1) → after ≡ insert_entry nat_cmp running link s
+pub numbered_started : (last next link : ℕ) (s : Session) (running after : List (ℕ × Session)) → next ≡ saturate (last + 1) → after ≡ insert_entry nat_cmp running link s
     → AreNumbered last running → s.number ≡ next → AreNumbered next after
 numbered_started last next link s running after is e numbered number = rw e (record {
   fits = omega (arith, is);

@@ -1,5 +1,6 @@
 -- How a digest differs from what a store holds.
 use Rattle.std.specs.Prelude.{ℕ, List, [], ◌∷◌, Option, Some, None, Bool, true, false, nat_lt, ◌==◌, filter, if◌then◌else◌}
+use Rattle.std.specs.BTreeSet.{insert_key}
 use Rattle.std.specs.Str.{bytes_eq}
 use Rattle.std.specs.Ordering.{nat_cmp, ordering_then}
 use Rattle.std.specs.declared.cmp.Ordering.{Ordering}
@@ -8,7 +9,7 @@ use Rattle.or_base.specs.declared.value.KvValue.{KvValue}
 use Rattle.or_base.specs.declared.digest.DigestRow.{DigestRow}
 use Rattle.or_base.specs.declared.entry.JournalEntry.{JournalEntry}
 use Rattle.or_base.specs.Order.{bytes_cmp}
-use Rattle.or_base.specs.Journal.{held_value, held_keys, with_key}
+use Rattle.or_base.specs.Journal.{held_value, held_keys}
 use Rattle.kv_value.specs.Hashing.{hash_of}
 
 -- the row of a key: the first that names it
@@ -19,7 +20,7 @@ row_for (row ∷ rows) key = if bytes_eq row.key key then Some row else row_for 
 -- the keys of rows, each once and in byte order
 abbrev pub keys_of : List DigestRow → List (List ℕ)
 keys_of [] = []
-keys_of (row ∷ rows) = with_key row.key (keys_of rows)
+keys_of (row ∷ rows) = insert_key bytes_cmp (keys_of rows) row.key
 
 -- version and originator of a held value and of a row of its key, in this order
 abbrev pub rank_cmp : KvValue → DigestRow → Ordering

@@ -5,7 +5,7 @@ use Rattle.kv_sync.specs.declared.session.SyncPhase.TheVariants.{Pushed}
 use Rattle.kv_sync.specs.declared.session.Session.{Session}
 use Rattle.kv_sync.specs.Sessions.{same_phase}
 
--- a session that has met its reply
+-- a session whose reply has arrived
 abbrev pub may_push : Option Session → Bool
 may_push None = false
 may_push (Some session) = same_phase session.phase Pushed
@@ -28,8 +28,8 @@ abbrev pub AreApart : List (ℕ × Session) → Type 0
 AreApart [] = Unit {0}
 AreApart (entry ∷ later) = AllByRecursion (IsApart entry) later × AreApart later
 
--- What is kept of running sessions where this number was given last. Numbers stand still at the end of 64 bits; as long as they
--- haven't come there, no two sessions share one.
+-- What is kept of running sessions where this number was given last. The counter of numbers saturates; as long as it is below its
+-- greatest number, no two sessions share one.
 pub record AreNumbered (last : ℕ) (running : List (ℕ × Session)) : Type 0 where
   pub fits : last < 2 ^ 64
   pub given : AllByRecursion (IsGiven last) running

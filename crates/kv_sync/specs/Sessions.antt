@@ -1,17 +1,12 @@
 -- Sessions of three-way full syncs, as their starter sees them.
-use Rattle.std.specs.Prelude.{ℕ, ◌+◌, ◌-◌, ◌^◌, min, List, [], Bool, true, false, ◌&&◌, ◌==◌, Option, Some, None, Result, Ok, Err, option_map}
-use Rattle.std.specs.Map.{lookup, remove_entry}
-use Rattle.std.specs.BTreeMap.{insert_entry, is_at}
-use Rattle.std.specs.Ordering.{nat_cmp}
+use Rattle.std.specs.Prelude.{ℕ, ◌+◌, List, [], Bool, true, false, ◌&&◌, ◌==◌, Option, Some, None, Result, Ok, Err, option_map}
 use Rattle.or_base.specs.declared.session.SyncDone.{SyncDone}
+use Rattle.or_base.specs.ByLink.{at_link, with_link, without_link}
+use Rattle.or_base.specs.Counting.{saturate}
 use Rattle.kv_sync.specs.declared.session.SyncPhase.{SyncPhase}
 use Rattle.kv_sync.specs.declared.session.SyncPhase.TheVariants.{Dumped, Pushed}
 use Rattle.kv_sync.specs.declared.session.Session.{Session}
 use Rattle.kv_sync.specs.declared.session.Stale.{Stale}
-
--- a number that stands still at the end of 64 bits
-abbrev pub capped : ℕ → ℕ
-capped n = min n (2 ^ 64 - 1)
 
 -- The number of the session that was started last, and the running session of each link that has one, in the order of
 -- links.
@@ -24,25 +19,25 @@ no_sessions = record { last = 0; running = [] }
 
 -- the running session of a link
 abbrev pub session_on : SessionsState → ℕ → Option Session
-session_on s link = lookup (is_at (nat_cmp link)) s.running
+session_on s link = at_link s.running link
 
 -- the link's running session becomes this one
 abbrev pub with_session : SessionsState → ℕ → Session → SessionsState
-with_session s link session = record { last = s.last; running = insert_entry nat_cmp s.running link session }
+with_session s link session = record { last = s.last; running = with_link s.running link session }
 
 -- the link has no running session
 abbrev pub without_session : SessionsState → ℕ → SessionsState
-without_session s link = record { last = s.last; running = remove_entry (is_at (nat_cmp link)) s.running }
+without_session s link = record { last = s.last; running = without_link s.running link }
 
 -- no link has one; numbers go on
 abbrev pub without_sessions : SessionsState → SessionsState
 without_sessions s = record { last = s.last; running = [] }
 
 -- A session with the next number takes the place of the link's session. a0 is the length of the starter's journal.
-unfoldable pub started : SessionsState → ℕ → List ℕ → ℕ → SessionsState
-started s link peer a0 = record {
-  last = capped (s.last + 1);
-  running = insert_entry nat_cmp s.running link (record { number = capped (s.last + 1); peer = peer; a0 = a0; b0 = 0; withheld = 0; phase = Dumped });
+unfoldable pub with_started_session : SessionsState → ℕ → List ℕ → ℕ → SessionsState
+with_started_session s link peer a0 = record {
+  last = saturate (s.last + 1);
+  running = with_link s.running link (record { number = saturate (s.last + 1); peer = peer; a0 = a0; b0 = 0; withheld = 0; phase = Dumped });
 }
 
 abbrev pub same_phase : SyncPhase → SyncPhase → Bool
@@ -71,14 +66,14 @@ current_of (Some session) number phase = current_if (is_in session number phase)
 unfoldable pub current : SessionsState → ℕ → ℕ → SyncPhase → Result Session Stale
 current s link number phase = current_of (session_on s link) number phase
 
--- A session that has met its reply: it is in the second phase, with the length of the peer's journal and the number of
+-- A session for which its reply has arrived: it is in the second phase, with the length of the peer's journal and the number of
 -- pairs that the peer withheld.
-abbrev pub pushed : Session → ℕ → ℕ → Session
-pushed session b0 withheld = record session { b0 = b0; withheld = withheld; phase = Pushed }
+abbrev pub session_after_reply : Session → ℕ → ℕ → Session
+session_after_reply session b0 withheld = record session { b0 = b0; withheld = withheld; phase = Pushed }
 
--- a session of which so many more pairs were withheld
-abbrev pub withholding : Session → ℕ → Session
-withholding session more = record session { withheld = capped (session.withheld + more) }
+-- a session of which so many more pairs are withheld; the count saturates
+abbrev pub with_more_withheld : Session → ℕ → Session
+with_more_withheld session more = record session { withheld = saturate (session.withheld + more) }
 
 -- a finished session
 abbrev pub done_of : ℕ → Session → SyncDone
@@ -87,7 +82,7 @@ done_of link session =
 
 -- after a reply: the session goes on, or nothing changes
 abbrev pub after_reply : SessionsState → ℕ → ℕ → ℕ → Result Session Stale → SessionsState
-after_reply s link b0 withheld (Ok session) = with_session s link (pushed session b0 withheld)
+after_reply s link b0 withheld (Ok session) = with_session s link (session_after_reply session b0 withheld)
 after_reply s link b0 withheld (Err stale) = s
 
 -- after an acknowledgement: the session is over, or nothing changes
@@ -98,4 +93,4 @@ after_ack s link (Err stale) = s
 -- after a push: the withheld pairs count
 abbrev pub after_push : SessionsState → ℕ → ℕ → Option Session → SessionsState
 after_push s link withheld None = s
-after_push s link withheld (Some session) = with_session s link (withholding session withheld)
+after_push s link withheld (Some session) = with_session s link (with_more_withheld session withheld)

@@ -5,7 +5,7 @@ ghost use Rattle.kv_sync.specs.Difference.{row_for, keys_of, rank_cmp, is_better
 
 use kv_table::KvTable;
 use kv_value::hash_of;
-use or_base::{DigestRow, Key, KvValue, NoMemory, add_key, held_keys};
+use or_base::{DigestRow, Key, KvValue, NoMemory, held_keys, insert_key};
 use std::alloc::Global;
 use std::cmp::Ordering;
 
@@ -38,7 +38,7 @@ fn keys_of(alloc: Global, rows: &[DigestRow]) -> Result<Vec<Key>, NoMemory>
     let mut keys = Vec::new(alloc);
     let mut left = rows;
     while let Some((row, others)) = left.split_last() {
-        add_key(&mut keys, &row.key)?;
+        insert_key(&mut keys, &row.key)?;
         left = others;
     }
     Ok(keys)

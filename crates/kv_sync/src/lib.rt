@@ -4,23 +4,24 @@
 //! the digest with what it holds itself (`diff`) and sends what is better there, the keys that it wants, and the length
 //! of its journal (Reply, by `reply_to`). The starter sends what was wanted (Push), and the peer acknowledges it (Ack, by
 //! `ack`). `Sessions` keeps the running sessions of the starter, one a link, each with the lengths of both journals and
-//! how many pairs were withheld for want of lifetime. A session is Dumped until it meets its reply, then Pushed until it
-//! meets its acknowledgement. A message with another number or phase than the link's running session is stale, and
-//! changes nothing.
+//! how many pairs were withheld because their lifetime was too short. A session is Dumped until its reply arrives, then
+//! Pushed until its acknowledgement arrives. A message with another number or phase than the link's running session is
+//! stale, and changes nothing.
 //!
 //! The promises are that `diff` gives exactly the lists of `specs/Difference.antt` and every message is that of
 //! `specs/Messages.antt`, over the table's journal; that each call does what `specs/Sessions.antt` defines, and is stale
-//! exactly there; and that a session's number is never used again (`numbers_are_new`): numbers rise with each start, and
-//! no two running sessions share one.
+//! exactly there; and that a session's number isn't used again (`numbers_are_new`): until the counter saturates, numbers
+//! rise with each start, and no two running sessions share one; and that a running session goes from Dumped to Pushed
+//! and ends as said (`sessions_go_on`).
 //!
 //! This is the plain body: `diff` looks for the row of each key from the front, and hashes a held value at most once for
 //! each list.
 //!
 //! The files: `difference` (how a digest differs from a table), `messages` (replies and acknowledgements), `session` (plain
-//! data), `sessions` (those that run), `tests`.
+//! data), `sessions` (those that run).
 #![tactic(auto)]
 
-ghost use Rattle.kv_sync.specs.Law.{NumbersAreNew};
+ghost use Rattle.kv_sync.specs.Law.{NumbersAreNew, SessionsGoOn};
 
 mod difference;
 mod messages;
@@ -32,11 +33,16 @@ pub use messages::{ack, reply_to};
 pub use session::{Session, Stale, SyncPhase};
 pub use sessions::Sessions;
 
-/// The law of numbers: whatever is done with sessions, each that starts has a number above all that were given before,
-/// and no two that run share one.
+/// The law of numbers: whatever is done with sessions, as long as the numbers given stay below 2^64 each session that
+/// starts has a number above all that were given before, and as long as they stay below 2^64 - 1 no two that run share
+/// one.
 pub fn numbers_are_new()
     ensures { NumbersAreNew }
 {}
 
-#[cfg(test)]
-mod tests;
+/// The law of sessions: whatever is done, a running session keeps its number, its peer and the length of its starter's
+/// journal, and goes from Dumped to Pushed and not back, until it ends. It ends by an acknowledgement that arrives for it
+/// once it is Pushed, as its link or all links are dropped, and as a new one takes its place.
+pub fn sessions_go_on()
+    ensures { SessionsGoOn }
+{}

@@ -5,7 +5,7 @@ use or_base::Name;
 pub enum SyncPhase {
     /// The dump was sent, and the reply is awaited.
     Dumped,
-    /// The reply was met, and the acknowledgement is awaited.
+    /// The reply has arrived, and the acknowledgement is awaited.
     Pushed,
 }
 
@@ -19,7 +19,7 @@ pub struct Session {
     pub a0: u64,
     /// The length of the peer's journal when its reply was made; 0 before that.
     pub b0: u64,
-    /// How many pairs were withheld so far for want of lifetime.
+    /// How many pairs were withheld so far, since their lifetime was too short.
     pub withheld: u64,
     pub phase: SyncPhase,
 }

@@ -1,11 +1,9 @@
 ghost use Rattle.std.specs.Prelude.{◌≡◌, ◌<◌, ◌+◌, ◌^◌, length, IsTrue, IfOk, OnOk, OnErr};
 ghost use Rattle.std.specs.Result.{result_map_both};
 ghost use Rattle.std.specs.Option.{IsSome, IfSome};
-ghost use Rattle.std.specs.Ordering.{nat_cmp};
-ghost use Rattle.std.specs.Map.{lookup};
-ghost use Rattle.std.specs.BTreeMap.{insert_entry, is_at};
+ghost use Rattle.or_base.specs.ByLink.{at_link, with_link};
 ghost use Rattle.kv_table.specs.Sending.{withheld_count};
-ghost use Rattle.kv_sync.specs.Sessions.{is_in, done_of, pushed, withholding};
+ghost use Rattle.kv_sync.specs.Sessions.{is_in, done_of, session_after_reply, with_more_withheld};
 
 use crate::session::{Session, Stale, SyncPhase};
 use kv_table::KvTable;
@@ -53,10 +51,10 @@ fn done_of(link: u32, session: Session) -> SyncDone
     }
 }
 
-/// The link's session has met its reply.
+/// The reply arrives for the link's session.
 #[tactic(auto, using(crate::proofs::Written::insert_found))]
 fn mark_pushed(running: &mut BTreeMap<u32, Session>, link: u32, b0: u64, withheld: u64)
-    ensures { IfSome (lookup (is_at (nat_cmp link)) running.old.entries) (λ s. running.new.entries ≡ insert_entry nat_cmp running.old.entries link (pushed s b0 withheld)) }
+    ensures { IfSome (at_link running.old.entries link) (λ s. running.new.entries ≡ with_link running.old.entries link (session_after_reply s b0 withheld)) }
 {
     if let Some(session) = running.get_mut(&link) {
         session.b0 = b0;
@@ -68,7 +66,7 @@ fn mark_pushed(running: &mut BTreeMap<u32, Session>, link: u32, b0: u64, withhel
 /// So many more pairs of the link's session were withheld.
 #[tactic(auto, using(crate::proofs::Written::insert_found))]
 fn add_withheld(running: &mut BTreeMap<u32, Session>, link: u32, more: u64)
-    ensures { IfSome (lookup (is_at (nat_cmp link)) running.old.entries) (λ s. running.new.entries ≡ insert_entry nat_cmp running.old.entries link (withholding s more)) }
+    ensures { IfSome (at_link running.old.entries link) (λ s. running.new.entries ≡ with_link running.old.entries link (with_more_withheld s more)) }
 {
     if let Some(session) = running.get_mut(&link) {
         session.withheld = session.withheld.saturating_add(more);
@@ -76,7 +74,8 @@ fn add_withheld(running: &mut BTreeMap<u32, Session>, link: u32, more: u64)
 }
 
 impl Sessions {
-    ghost use Rattle.kv_sync.specs.Sessions.{capped, no_sessions, session_on, without_session, without_sessions, started, current, after_reply, after_ack, after_push};
+    ghost use Rattle.or_base.specs.Counting.{saturate};
+    ghost use Rattle.kv_sync.specs.Sessions.{no_sessions, session_on, without_session, without_sessions, with_started_session, current, after_reply, after_ack, after_push};
     ghost use Rattle.kv_sync.specs.Messages.{dump_message, push_message};
     ghost use Rattle.kv_sync.specs.Running.{may_push, number_of};
     ghost use Rattle.kv_sync.specs.declared.session.SyncPhase.TheVariants.{Dumped, Pushed};
@@ -100,10 +99,10 @@ impl Sessions {
 
     /// Starts a session with the peer in the place of the link's session, and gives its dump. Where memory runs out
     /// nothing changes.
-    #[tactic(auto, unfolding(crate::specs::Sessions::started, crate::specs::Messages::dump_message))]
+    #[tactic(auto, unfolding(crate::specs::Sessions::with_started_session, crate::specs::Messages::dump_message))]
     pub fn start(&mut self, link: u32, peer: Name, table: &KvTable) -> Result<Msg, NoMemory>
-        ensures state { OnOk result (self.new ≡ started self.old link peer (length table.now)) }
-        ensures message { IfOk result (λ msg. msg ≡ dump_message (capped (self.old.last + 1)) table.now) }
+        ensures state { OnOk result (self.new ≡ with_started_session self.old link peer (length table.now)) }
+        ensures message { IfOk result (λ msg. msg ≡ dump_message (saturate (self.old.last + 1)) table.now) }
         ensures err { OnErr result (self.new ≡ self.old) }
     {
         let number = self.last.saturating_add(1);

@@ -1,2 +1,3 @@
-pub mod Deadlines
+pub mod Inserted
+pub mod Order
 pub mod Rows

@@ -1,31 +1,29 @@
-ghost use Rattle.std.specs.Prelude.{◌≡◌, IfOk, OnOk};
-ghost use Rattle.kv_table.specs.Expiry.{deadline_of, with_deadline, with_due, due};
+ghost use Rattle.std.specs.Prelude.{◌≡◌, map, IfOk, OnOk};
+ghost use Rattle.kv_table.specs.Expiry.{deadline_of, due};
+ghost use Rattle.kv_table.specs.Deadlines.{with_deadline, with_due};
 
-use or_base::{JournalEntry, Key, NoMemory, held_keys, held_under};
+use or_base::{JournalEntry, Key, NoMemory, held_keys, holds};
 use std::alloc::Global;
 
-/// A key that is held, and the moment in milliseconds at which it is lost.
+/// A key that is held with a lifetime, and the moment in milliseconds at which it is lost.
 #[derive(Drop)]
-pub struct Due {
+pub struct Deadline {
     pub moment: u128,
     pub key: Key,
 }
 
-/// The deadline of a key that is held with a lifetime. It can be past 2^64, and takes no memory.
-fn deadline_of(journal: &[JournalEntry], key: Key) -> Option<Due>
-    ensures { result ≡ deadline_of journal.now key }
+/// The moment in milliseconds at which the key is lost, if it is held with a lifetime. It can be past 2^64.
+fn deadline_of(journal: &[JournalEntry], key: &Key) -> Option<u128>
+    ensures { result ≡ deadline_of journal.now key.now }
 {
-    let held = held_under(journal, &key)?;
+    let held = holds(journal, key)?;
     let ttl = held.value.ttl?;
-    Some(Due {
-        moment: u128::from(held.merged_at) + u128::from(ttl),
-        key,
-    })
+    Some(u128::from(held.merged_at) + u128::from(ttl))
 }
 
 /// Adds a deadline to deadlines in order: before the first that is later.
-#[tactic(auto, using(crate::proofs::Deadlines::with_deadline_steps))]
-fn add_deadline(ordered: &mut Vec<Due>, d: Due) -> Result<(), NoMemory>
+#[tactic(auto, using(crate::proofs::Inserted::with_deadline_steps))]
+fn add_deadline(ordered: &mut Vec<Deadline>, d: Deadline) -> Result<(), NoMemory>
     ensures { OnOk result (ordered.new.items ≡ with_deadline d ordered.old.items) }
 {
     for place in 0..ordered.len() {
@@ -38,14 +36,19 @@ fn add_deadline(ordered: &mut Vec<Due>, d: Due) -> Result<(), NoMemory>
     Ok(())
 }
 
-/// Adds a deadline to deadlines in order, where there is one and it is at most `now`.
-fn add_due(ordered: &mut Vec<Due>, deadline: Option<Due>, now: u64) -> Result<(), NoMemory>
-    ensures { OnOk result (ordered.new.items ≡ with_due now ordered.old.items deadline) }
+/// Adds the deadline of a key to deadlines in order, where it has one and it is at most `now`.
+fn add_due(
+    ordered: &mut Vec<Deadline>,
+    key: Key,
+    deadline: Option<u128>,
+    now: u64,
+) -> Result<(), NoMemory>
+    ensures { OnOk result (ordered.new.items ≡ with_due now ordered.old.items key deadline) }
 {
     match deadline {
-        Some(d) => {
-            if d.moment <= u128::from(now) {
-                add_deadline(ordered, d)?;
+        Some(moment) => {
+            if moment <= u128::from(now) {
+                add_deadline(ordered, Deadline { moment, key })?;
             }
         }
         None => {}
@@ -53,18 +56,19 @@ fn add_due(ordered: &mut Vec<Due>, deadline: Option<Due>, now: u64) -> Result<()
     Ok(())
 }
 
-/// The deadlines of the journal that are at most `now`, by moment and then by key.
-#[tactic(auto, unfolding(crate::specs::Expiry::due), using(crate::proofs::Deadlines::due_step))]
+/// The keys of the journal whose deadline is at most `now`, by deadline and then by key.
+#[tactic(auto, using(crate::proofs::Order::keys_in_order))]
 pub fn deadlines_due(
     alloc: Global,
     journal: &[JournalEntry],
     now: u64,
-) -> Result<Vec<Due>, NoMemory>
-    ensures { IfOk result (λ all. all.items ≡ due journal.now now) }
+) -> Result<Vec<Deadline>, NoMemory>
+    ensures { IfOk result (λ all. map (λ d. d.key) all.items ≡ due journal.now now) }
 {
     let mut ordered = Vec::new(alloc);
     for key in held_keys(alloc, journal)? {
-        add_due(&mut ordered, deadline_of(journal, key), now)?;
+        let deadline = deadline_of(journal, &key);
+        add_due(&mut ordered, key, deadline, now)?;
     }
     Ok(ordered)
 }

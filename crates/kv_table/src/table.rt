@@ -1,9 +1,9 @@
 ghost use Rattle.std.specs.Prelude.{◌≡◌, ◌++◌, ◌∷◌, [], length, IfOk, OnOk, OnErr};
 
-use crate::expiry::{Due, deadlines_due};
+use crate::expiry::{Deadline, deadlines_due};
 use crate::offered::Offered;
-use kv_value::compare;
-use or_base::{Held, JournalEntry, Key, NoMemory, Origin, Pair, held_under, is_valid_pair};
+use kv_value::value_cmp;
+use or_base::{Held, JournalEntry, Key, NoMemory, Origin, Pair, holds, is_valid_pair};
 use std::alloc::Global;
 use std::cmp::Ordering;
 use std::marker::Model;
@@ -55,7 +55,7 @@ impl KvTable {
     pub fn get(&self, key: &Key) -> Option<Held<'_>>
         ensures { option_map (λ held. (held.value.now, held.merged_at)) result ≡ holds self.now key.now }
     {
-        held_under(self.entries.as_slice(), key)
+        holds(self.entries.as_slice(), key)
     }
 
     /// Merges the pair if it is within the limits and its value exceeds what is held under its key, and tells what
@@ -69,7 +69,7 @@ impl KvTable {
             return Ok(Offered::Invalid);
         }
         if let Some(held) = self.get(&pair.key) {
-            if compare(held.value, &pair.value) != Ordering::Less {
+            if value_cmp(held.value, &pair.value) != Ordering::Less {
                 return Ok(Offered::Kept);
             }
         }
@@ -92,12 +92,13 @@ impl KvTable {
         let lost = deadlines_due(self.alloc(), self.entries.as_slice(), now)?;
         let count = lost.len() as u64;
         self.entries.reserve(lost.len())?;
-        for Due { key, .. } in lost {
+        for Deadline { key, .. } in lost {
             self.entries
                 .push_reserved(JournalEntry::Expired { key, at: now });
         }
         Ok(count)
     }
+
     /// Loses all that is held, as a store that restarts at the moment `now` does. Where memory runs out the table stays
     /// as it was.
     pub fn clear(&mut self, now: u64) -> Result<(), NoMemory>

@@ -10,7 +10,7 @@ use Rattle.clap.specs.declared.error.Error.{Error}
 use Rattle.clap.specs.declared.error.kind.ErrorKind.{ErrorKind}
 use Rattle.clap.specs.declared.error.kind.ErrorKind.TheVariants.{OutOfMemory}
 use Rattle.clap.proofs.FaultLemmas.{leaf_fault}
-use Rattle.lab_words.specs.Command.{IsCommand, command, command_with, modes, referred}
+use Rattle.lab_words.specs.Command.{IsCommand, command, command_with, modes, reference_to}
 use Rattle.lab_words.specs.Words.{IsInRange, are_refused, asked_in, words_of}
 use Rattle.lab_words.proofs.Faultless.{level_alike}
 use Rattle.lab_words.proofs.Places.{AreBounded, stands, top, within}
@@ -26,15 +26,15 @@ read_alike names others same words e =
     (leaf_fault (built (command_with others)) nothing_held words refl ∙ one.0, one.1, numbers)
 
 abbrev here : Bor (List (Bor Text))
-here = referred (map referred modes)
+here = reference_to (map reference_to modes)
 
 -- words that are taken
-pub taken : (app : App) (rows : List Row) (words : List Text) (X : Type 0) → IsCommand app
+pub accepts_words : (app : App) (rows : List Row) (words : List Text) (X : Type 0) → IsCommand app
     → (is_simple_and_free app ≡ true → fault_of app words ≡ [])
     → (is_simple app ≡ true → (rows ≡ matches_of app words) × X)
     → (words_of words ≡ Some (asked_in rows)) × IsInRange (asked_in rows)
 unfolding words_of are_refused
-taken app rows words X is kinds matches =
+accepts_words app rows words X is kinds matches =
     let none : fault_of (command_with is.0) words ≡ [] = ap (λ a. fault_of a words) (sym is.2) ∙ kinds (ap is_simple_and_free is.2) in
     let rows_are : rows ≡ matches_of (command_with is.0) words = (matches (ap is_simple is.2)).0 ∙ ap (λ a. matches_of a words) is.2 in
     let alike = read_alike is.0 here is.1 words none in
@@ -42,12 +42,12 @@ taken app rows words X is kinds matches =
     let same : matches_of command words ≡ rows = alike.1 ∙ sym rows_are in
     (rw (free, same) refl, subst (λ rows. IsInRange (asked_in rows)) (sym rows_are) alike.2)
 
--- words that are refused, for another cause than want of memory
-pub refused : (app : App) (e : Error) (k : ErrorKind) (words : List Text) → IsCommand app
+-- words that are refused, where memory didn't run out
+pub refuses_words : (app : App) (e : Error) (k : ErrorKind) (words : List Text) → IsCommand app
     → (is_simple_and_free app ≡ true → HasKind (fault_of app words) e)
     → k ≡ kind_of e → (k ≡ OutOfMemory → ⊥) → words_of words ≡ None
 unfolding words_of are_refused
-refused app e k words is kinds same other = go (fault_of command words) refl
+refuses_words app e k words is kinds same other = go (fault_of command words) refl
   where
     no_kind : (ks : Kinds) → ks ≡ [] → IsAmong (kind_of e) ks → ⊥
     no_kind [] none among = among

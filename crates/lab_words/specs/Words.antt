@@ -5,7 +5,7 @@ use Rattle.std.specs.Str.{bytes_eq}
 use Rattle.std.specs.Str.Parse.{digits_value, without_leading_plus}
 use Rattle.clap.specs.ValueTests.{is_numeral}
 use Rattle.clap.specs.Words.{Row, Text, Kinds, fault_of, first_of, one_of, matches_of}
-use Rattle.lab_words.specs.Command.{command}
+use Rattle.lab_words.specs.Command.{command, least_size, most_size, most_workers}
 use Rattle.lab_words.specs.declared.words.Mode.{Mode}
 use Rattle.lab_words.specs.declared.words.Mode.TheVariants.{Replay, Live, Gen, Check}
 use Rattle.lab_words.specs.declared.words.Words.{Words}
@@ -45,4 +45,4 @@ words_of words = if are_refused words then None else Some (asked_in (matches_of 
 
 -- the numbers are in their ranges
 abbrev pub IsInRange : Words → Type 0
-IsInRange w = (1 ≤ w.workers) × (w.workers ≤ 64) × (2 ≤ w.size) × (w.size ≤ 8)
+IsInRange w = (1 ≤ w.workers) × (w.workers ≤ most_workers) × (least_size ≤ w.size) × (w.size ≤ most_size)

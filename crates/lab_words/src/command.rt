@@ -4,6 +4,7 @@ ghost use Rattle.std.specs.Borrow.{Bor};
 ghost use Rattle.clap.specs.Words.{Text, app_of, rule_of};
 ghost use Rattle.lab_words.specs.Command.{IsCommand, bare_command, mode_rule, modes, size_rule, trace_rule, workers_rule};
 
+use crate::words::{LEAST_SIZE, MOST_SIZE, MOST_WORKERS};
 use clap::{Arg, ArgAction, Command, value_parser};
 use std::alloc::{AllocError, Global};
 
@@ -16,7 +17,7 @@ fn workers_argument<'a>(alloc: Global) -> Arg<'a>
 {
     Arg::new(alloc, "workers")
         .long("workers")
-        .value_parser(value_parser!(u32).range(1..=64))
+        .value_parser(value_parser!(u32).range(1..=MOST_WORKERS))
         .default_value("2")
 }
 
@@ -26,7 +27,7 @@ fn size_argument<'a>(alloc: Global) -> Arg<'a>
 {
     Arg::new(alloc, "size")
         .long("size")
-        .value_parser(value_parser!(u32).range(2..=8))
+        .value_parser(value_parser!(u32).range(LEAST_SIZE..=MOST_SIZE))
         .default_value("3")
 }
 

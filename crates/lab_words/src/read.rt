@@ -1,4 +1,4 @@
-ghost use Rattle.std.specs.Prelude.{◌≡◌, Err, IfOk, List, None, Some, codes, false, map, option_map, string_bytes, ℕ};
+ghost use Rattle.std.specs.Prelude.{◌≡◌, ◌≢◌, Err, IfOk, List, None, Some, codes, false, map, option_map, string_bytes, ℕ};
 ghost use Rattle.std.specs.Option.{option_map_or};
 ghost use Rattle.std.specs.Borrow.{Bor};
 ghost use Rattle.std.specs.Str.{bytes_eq};
@@ -54,6 +54,17 @@ fn asked_in(matches: &ArgMatches<'_>) -> Words
     }
 }
 
+/// The fault that an error of `clap` of this kind is: out of memory exactly where `clap` ran out of it.
+fn fault_of_kind(kind: ErrorKind) -> WordsFault
+    ensures memory { result ≡ WordsFault.NoMemory → kind ≡ ErrorKind.OutOfMemory }
+    ensures usage { result ≡ WordsFault.Usage → kind ≢ ErrorKind.OutOfMemory }
+{
+    match kind {
+        ErrorKind::OutOfMemory => WordsFault::NoMemory,
+        _ => WordsFault::Usage,
+    }
+}
+
 /// What the words ask for; the program's name is none of them.
 pub fn read_words(alloc: Global, words: &[String]) -> Result<Words, WordsFault>
     ensures asked { IfOk result (λ asked. words_of (map string_bytes words.now) ≡ Some asked) }
@@ -65,10 +76,7 @@ pub fn read_words(alloc: Global, words: &[String]) -> Result<Words, WordsFault>
     };
     match command.try_get_matches_from(words) {
         Ok(matches) => Ok(asked_in(&matches)),
-        Err(error) => match error.kind() {
-            ErrorKind::OutOfMemory => Err(WordsFault::NoMemory),
-            _ => Err(WordsFault::Usage),
-        },
+        Err(error) => Err(fault_of_kind(error.kind())),
     }
 }
 

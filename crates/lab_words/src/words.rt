@@ -1,3 +1,12 @@
+/// The greatest number of workers.
+pub const MOST_WORKERS: i64 = 64;
+
+/// The least size of a laboratory that is made.
+pub const LEAST_SIZE: i64 = 2;
+
+/// The greatest size of one.
+pub const MOST_SIZE: i64 = 8;
+
 /// What the program does.
 #[derive(Clone, Copy, Debug, PartialEq, Eq)]
 pub enum Mode {
@@ -15,9 +24,9 @@ pub enum Mode {
 #[derive(Clone, Copy, Debug, PartialEq, Eq)]
 pub struct Words {
     pub mode: Mode,
-    /// 1 to 64.
+    /// 1 to `MOST_WORKERS`.
     pub workers: u32,
-    /// 2 to 8.
+    /// `LEAST_SIZE` to `MOST_SIZE`.
     pub size: u32,
     pub trace: bool,
 }

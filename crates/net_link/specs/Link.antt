@@ -1,16 +1,18 @@
 -- A link between two nodes: what comes out as a function of what went in.
-use Rattle.std.specs.Prelude.{ℕ, ◌-◌, List, [], ◌∷◌, ◌++◌, Bool, true, false, not, ◌==◌, map, if◌then◌else◌}
+use Rattle.std.specs.Prelude.{ℕ, ◌-◌, List, [], ◌∷◌, ◌++◌, Bool, true, false, not, Option, Some, None, ◌==◌, map, if◌then◌else◌}
 use Rattle.std.specs.Str.{bytes_eq}
 use Rattle.std.specs.List.{filter}
 use Rattle.or_base.specs.declared.act.Act.{Act}
 use Rattle.or_base.specs.declared.act.Act.TheVariants.{Pass, Drop, Twice, Late}
 use Rattle.or_base.specs.declared.item.Item.{Item}
-use Rattle.or_base.specs.declared.item.Item.TheVariants.{Up, Down, Script, Tick, PeerUp, PeerDown, Net}
+use Rattle.or_base.specs.declared.item.Item.TheVariants.{Up, Down, Script, Tick, Set, Sync, Restart, Persist, Unset, Drain, LinkDrain, Metric, Advertise, Withdraw, Aggregate, Get, Ask, LinkUp, LinkDown, NeighbourUp, NeighbourDown, PeerUp, PeerDown, Net, Entry, Routes}
 use Rattle.or_base.specs.declared.message.Msg.{Msg}
 use Rattle.net_link.specs.declared.held.HeldMsg.{HeldMsg}
 use Rattle.or_actor.specs.declared.output.Output.{Output}
 use Rattle.or_actor.specs.declared.output.Output.TheVariants.{To}
-use Rattle.or_actor.specs.declared.ports.TheConstants.{STORE_PORT, STORE_PORT_AT_B}
+use Rattle.net_link.specs.declared.end.End.{End}
+use Rattle.net_link.specs.declared.end.End.TheVariants.{A, B}
+use Rattle.net_link.specs.End.{other_end, store_port_of}
 
 -- one direction of a link: what it does with the next messages, one act for each, and the messages that it holds back, in
 -- the order in which they came
@@ -34,14 +36,6 @@ pub record LinkState : Type 0 where
 abbrev pub new_link : ℕ → List ℕ → List ℕ → LinkState
 new_link link a b = record { link = link; a = a; b = b; is_up = false; from_a = no_script; from_b = no_script }
 
--- what a link tells as it comes up: to each end's store the node at the other end, end a first
-abbrev pub peers_up : LinkState → List Output
-peers_up s = To STORE_PORT (PeerUp s.link s.b) ∷ To STORE_PORT_AT_B (PeerUp s.link s.a) ∷ []
-
--- and as it goes down
-abbrev pub peers_down : LinkState → List Output
-peers_down s = To STORE_PORT (PeerDown s.link) ∷ To STORE_PORT_AT_B (PeerDown s.link) ∷ []
-
 -- ---- one direction
 
 -- the act for the next message, and those that are left
@@ -49,43 +43,43 @@ abbrev pub next_act : List Act → Act × List Act
 next_act [] = (Pass, [])
 next_act (act ∷ acts) = (act, acts)
 
--- one message more has come
-abbrev pub counted : HeldMsg → HeldMsg
-counted h = record h { count = h.count - 1 }
+-- a held message after one message more has come
+abbrev pub count_down : HeldMsg → HeldMsg
+count_down h = record h { count = h.count - 1 }
 
--- how often an act puts a message on at once
-abbrev pub put_on : Act → Msg → List Msg
-put_on Pass msg = msg ∷ []
-put_on Drop msg = []
-put_on Twice msg = msg ∷ msg ∷ []
-put_on (Late n) msg = []
+-- what an act forwards of a message at once
+abbrev pub forwards_at_once : Act → Msg → List Msg
+forwards_at_once Pass msg = msg ∷ []
+forwards_at_once Drop msg = []
+forwards_at_once Twice msg = msg ∷ msg ∷ []
+forwards_at_once (Late n) msg = []
 
 -- what an act holds back
-abbrev pub held_back : Act → Msg → List HeldMsg
-held_back Pass msg = []
-held_back Drop msg = []
-held_back Twice msg = []
-held_back (Late n) msg = record { msg = msg; count = n } ∷ []
+abbrev pub holds_back : Act → Msg → List HeldMsg
+holds_back Pass msg = []
+holds_back Drop msg = []
+holds_back Twice msg = []
+holds_back (Late n) msg = record { msg = msg; count = n } ∷ []
 
 abbrev pub is_due : HeldMsg → Bool
 is_due h = h.count == 0
 
--- the messages that are held back, with one that has come
-abbrev pub held_with : Direction → Msg → List HeldMsg
-held_with d msg = map counted d.held ++ held_back (next_act d.script).0 msg
+-- the messages that are held back once one message more has come
+abbrev pub held_after : Direction → Msg → List HeldMsg
+held_after d msg = map count_down d.held ++ holds_back (next_act d.script).0 msg
 
 -- A direction after a message: the counters of those held back fall by one, the front act is taken, and those whose counter
 -- is 0 aren't held any more.
 unfoldable pub direction_after : Direction → Msg → Direction
-direction_after d msg = record { script = (next_act d.script).1; held = filter (λ h. not (is_due h)) (held_with d msg) }
+direction_after d msg = record { script = (next_act d.script).1; held = filter (λ h. not (is_due h)) (held_after d msg) }
 
--- what a direction puts on for a message: what the act says of it, and then those held back whose counter is 0
-unfoldable pub passed_on : Direction → Msg → List Msg
-passed_on d msg = put_on (next_act d.script).0 msg ++ map (λ h. h.msg) (filter is_due (held_with d msg))
+-- what a direction forwards as a message comes: what the act says of it, and then those held back whose counter is 0
+unfoldable pub forwards : Direction → Msg → List Msg
+forwards d msg = forwards_at_once (next_act d.script).0 msg ++ map (λ h. h.msg) (filter is_due (held_after d msg))
 
 -- all that a direction holds back
-abbrev pub all_held : Direction → List Msg
-all_held d = map (λ h. h.msg) d.held
+abbrev pub held_messages : Direction → List Msg
+held_messages d = map (λ h. h.msg) d.held
 
 abbrev pub without_held : Direction → Direction
 without_held d = record d { held = [] }
@@ -95,46 +89,85 @@ with_acts d acts = record d { script = d.script ++ acts }
 
 -- ---- both
 
--- messages of end a go to the store of end b, and those of end b to that of end a
-abbrev pub to_b : LinkState → Msg → Output
-to_b s msg = To STORE_PORT_AT_B (Net s.link s.a msg)
+-- the node at an end
+abbrev pub node_at : LinkState → End → List ℕ
+node_at s A = s.a
+node_at s B = s.b
 
-abbrev pub to_a : LinkState → Msg → Output
-to_a s msg = To STORE_PORT (Net s.link s.b msg)
+-- the direction of the messages that an end sends
+abbrev pub direction_from : LinkState → End → Direction
+direction_from s A = s.from_a
+direction_from s B = s.from_b
 
-abbrev pub is_from_a : LinkState → List ℕ → Bool
-is_from_a s from = bytes_eq from s.a
+abbrev pub with_direction : LinkState → End → Direction → LinkState
+with_direction s A d = record s { from_a = d }
+with_direction s B d = record s { from_b = d }
 
-abbrev pub is_from_b : LinkState → List ℕ → Bool
-is_from_b s from = bytes_eq from s.b
+-- the end of a node, if it is at one
+abbrev pub end_of : LinkState → List ℕ → Option End
+end_of s node = if bytes_eq node s.a then Some A else if bytes_eq node s.b then Some B else None
 
--- a message of a node that is no end is lost
-unfoldable pub carry_step : LinkState → List ℕ → Msg → LinkState × List Output
-carry_step s from msg =
-    if is_from_a s from then (record s { from_a = direction_after s.from_a msg }, map (to_b s) (passed_on s.from_a msg))
-    else if is_from_b s from then (record s { from_b = direction_after s.from_b msg }, map (to_a s) (passed_on s.from_b msg))
-    else (s, [])
+-- to an end's store: a message of the other end, and that the node there can be reached, or no longer
+abbrev pub message_to : LinkState → End → Msg → Output
+message_to s end msg = To (store_port_of end) (Net s.link (node_at s (other_end end)) msg)
 
--- acts are added to the script of the node's direction
-unfoldable pub script_step : LinkState → List ℕ → List Act → LinkState
-script_step s from acts =
-    if is_from_a s from then record s { from_a = with_acts s.from_a acts }
-    else if is_from_b s from then record s { from_b = with_acts s.from_b acts }
-    else s
+abbrev pub peer_up_to : LinkState → End → Output
+peer_up_to s end = To (store_port_of end) (PeerUp s.link (node_at s (other_end end)))
 
--- a tick passes on all that is held back, the messages of a and then those of b
-abbrev pub flushed : LinkState → LinkState
-flushed s = record s { from_a = without_held s.from_a; from_b = without_held s.from_b }
+abbrev pub peer_down_to : LinkState → End → Output
+peer_down_to s end = To (store_port_of end) (PeerDown s.link)
 
-abbrev pub flush_outputs : LinkState → List Output
-flush_outputs s = map (to_b s) (all_held s.from_a) ++ map (to_a s) (all_held s.from_b)
+-- a message of an end goes through its direction; that of a node at no end is lost
+unfoldable pub carry_step : LinkState → Option End → Msg → LinkState × List Output
+carry_step s None msg = (s, [])
+carry_step s (Some from) msg =
+    let d = direction_from s from in
+    (with_direction s from (direction_after d msg), map (message_to s (other_end from)) (forwards d msg))
 
--- One turn of a link: the state after it, and what is sent. A link that is up already or down already stays so. Going down
--- it loses what it holds back and keeps its scripts; a message that comes while it is down is lost.
+-- acts are added to the script of an end's direction
+unfoldable pub script_step : LinkState → Option End → List Act → LinkState
+script_step s None acts = s
+script_step s (Some from) acts = with_direction s from (with_acts (direction_from s from) acts)
+
+-- nothing is held back any more
+abbrev pub without_held_messages : LinkState → LinkState
+without_held_messages s = record s { from_a = without_held s.from_a; from_b = without_held s.from_b }
+
+-- all that the direction of an end's messages holds back
+abbrev pub held_from : LinkState → End → List Output
+held_from s from = map (message_to s (other_end from)) (held_messages (direction_from s from))
+
+-- an item changes nothing, and nothing is sent
+abbrev pub ignore : LinkState → LinkState × List Output
+ignore s = (s, [])
+
+-- One turn of a link: the state after it, and what is sent, each time for end a first. A link that is up already or down already stays so.
+-- Going down it loses what it holds back and keeps its scripts; a message that comes while it is down is lost. A tick forwards all that
+-- is held back. A link doesn't take the items from Set on.
 unfoldable pub link_step : LinkState → Item → LinkState × List Output
-link_step s Up = if s.is_up then (s, []) else (record s { is_up = true }, peers_up s)
-link_step s Down = if s.is_up then (record (flushed s) { is_up = false }, peers_down s) else (s, [])
-link_step s (Script from acts) = (script_step s from acts, [])
-link_step s (Tick at) = (flushed s, flush_outputs s)
-link_step s (Net link from msg) = if s.is_up then carry_step s from msg else (s, [])
-link_step s _ = (s, [])
+link_step s Up = if s.is_up then ignore s else (record s { is_up = true }, peer_up_to s A ∷ peer_up_to s B ∷ [])
+link_step s Down = if s.is_up then (record (without_held_messages s) { is_up = false }, peer_down_to s A ∷ peer_down_to s B ∷ []) else ignore s
+link_step s (Script from acts) = (script_step s (end_of s from) acts, [])
+link_step s (Tick at) = (without_held_messages s, held_from s A ++ held_from s B)
+link_step s (Net link from msg) = if s.is_up then carry_step s (end_of s from) msg else ignore s
+link_step s (Set pair) = ignore s
+link_step s (Sync link) = ignore s
+link_step s Restart = ignore s
+link_step s (Persist key value ttl) = ignore s
+link_step s (Unset key) = ignore s
+link_step s (Drain on) = ignore s
+link_step s (LinkDrain link on) = ignore s
+link_step s (Metric link metric) = ignore s
+link_step s (Advertise entry) = ignore s
+link_step s (Withdraw prefix) = ignore s
+link_step s (Aggregate prefix least) = ignore s
+link_step s (Get key) = ignore s
+link_step s (Ask prefix) = ignore s
+link_step s (LinkUp link) = ignore s
+link_step s (LinkDown link) = ignore s
+link_step s (NeighbourUp link peer peer_if) = ignore s
+link_step s (NeighbourDown link) = ignore s
+link_step s (PeerUp link peer) = ignore s
+link_step s (PeerDown link) = ignore s
+link_step s (Entry entry) = ignore s
+link_step s (Routes delta) = ignore s

@@ -1,7 +1,7 @@
 ghost use Rattle.std.specs.Prelude.{◌≡◌, ◌++◌, IfOk, OnOk};
 
 use crate::held::HeldMsg;
-use crate::holding::{count_down, hold, messages_of, put_on, release_due};
+use crate::holding::{count_all_down, forwards_at_once, hold, messages_of, release_due};
 use or_base::{Act, Msg, NoMemory, Seq};
 use std::alloc::Global;
 use std::collections::VecDeque;
@@ -35,7 +35,7 @@ fn append_acts(script: &mut VecDeque<Act>, acts: Vec<Act>) -> Result<(), NoMemor
 }
 
 impl LinkDirection {
-    ghost use Rattle.net_link.specs.Link.{no_script, next_act, held_with, direction_after, passed_on, all_held, without_held, with_acts};
+    ghost use Rattle.net_link.specs.Link.{no_script, next_act, held_after, direction_after, forwards, held_messages, without_held, with_acts};
 
     /// No script, and nothing held back. It takes no memory.
     pub fn new(alloc: Global) -> LinkDirection
@@ -67,25 +67,25 @@ impl LinkDirection {
         replace(&mut self.held, empty)
     }
 
-    /// Takes a message, and answers the messages that it puts on.
-    #[tactic(auto, unfolding(crate::specs::Link::direction_after, crate::specs::Link::passed_on))]
+    /// Takes a message, and answers the messages that it forwards.
+    #[tactic(auto, unfolding(crate::specs::Link::direction_after, crate::specs::Link::forwards))]
     pub fn take(&mut self, msg: Msg) -> Result<Vec<Msg>, NoMemory>
         ensures state { OnOk result (self.new ≡ direction_after self.old msg) }
-        ensures passed { IfOk result (λ msgs. msgs.items ≡ passed_on self.old msg) }
+        ensures forwards { IfOk result (λ msgs. msgs.items ≡ forwards self.old msg) }
     {
         let alloc = *self.held.allocator();
         let act = self.take_act();
-        let mut held = count_down(alloc, self.take_held())?;
+        let mut held = count_all_down(alloc, self.take_held())?;
         hold(&mut held, act, &msg)?;
-        let mut passed = put_on(alloc, act, msg)?;
-        self.held = release_due(alloc, held, &mut passed)?;
-        Ok(passed)
+        let mut forwarded = forwards_at_once(alloc, act, msg)?;
+        self.held = release_due(alloc, held, &mut forwarded)?;
+        Ok(forwarded)
     }
 
     /// Takes all messages that are held back, whatever their counters.
     pub fn take_all_held(&mut self) -> Result<Vec<Msg>, NoMemory>
         ensures state { OnOk result (self.new ≡ without_held self.old) }
-        ensures passed { IfOk result (λ msgs. msgs.items ≡ all_held self.old) }
+        ensures held { IfOk result (λ msgs. msgs.items ≡ held_messages self.old) }
     {
         let alloc = *self.held.allocator();
         let held = self.take_held();

@@ -1,15 +1,14 @@
-ghost use Rattle.std.specs.Prelude.{◌≡◌, ◌++◌, map, not, IfOk, OnOk};
+ghost use Rattle.std.specs.Prelude.{◌≡◌, ◌++◌, [], ◌∷◌, map, not, IfOk, OnOk};
 ghost use Rattle.std.specs.List.{filter};
-ghost use Rattle.net_link.specs.Link.{counted, held_back, is_due, put_on};
-ghost use Rattle.net_link.specs.Parts.{kept_of, due_of};
+ghost use Rattle.net_link.specs.Link.{count_down, holds_back, is_due, forwards_at_once};
 
 use crate::held::HeldMsg;
 use or_base::{Act, Msg, NoMemory};
 use std::alloc::Global;
 
 /// A held message after one message more has come.
-fn counted(held: HeldMsg) -> HeldMsg
-    ensures { result ≡ counted held }
+fn count_down(held: HeldMsg) -> HeldMsg
+    ensures { result ≡ count_down held }
 {
     HeldMsg {
         msg: held.msg,
@@ -18,19 +17,19 @@ fn counted(held: HeldMsg) -> HeldMsg
 }
 
 /// Held messages after one message more has come.
-pub fn count_down(alloc: Global, held: Vec<HeldMsg>) -> Result<Vec<HeldMsg>, NoMemory>
-    ensures { IfOk result (λ after. after.items ≡ map counted held.items) }
+pub fn count_all_down(alloc: Global, held: Vec<HeldMsg>) -> Result<Vec<HeldMsg>, NoMemory>
+    ensures { IfOk result (λ after. after.items ≡ map count_down held.items) }
 {
     let mut after = Vec::new(alloc);
     for message in held {
-        after.push(counted(message))?;
+        after.push(count_down(message))?;
     }
     Ok(after)
 }
 
 /// Holds back what the act says of the message.
 pub fn hold(held: &mut Vec<HeldMsg>, act: Act, msg: &Msg) -> Result<(), NoMemory>
-    ensures { OnOk result (held.new.items ≡ held.old.items ++ held_back act msg.now) }
+    ensures { OnOk result (held.new.items ≡ held.old.items ++ holds_back act msg.now) }
 {
     if let Act::Late(count) = act {
         let msg = msg.copied()?;
@@ -40,9 +39,9 @@ pub fn hold(held: &mut Vec<HeldMsg>, act: Act, msg: &Msg) -> Result<(), NoMemory
     Ok(())
 }
 
-/// The message as often as the act puts it on at once.
-pub fn put_on(alloc: Global, act: Act, msg: Msg) -> Result<Vec<Msg>, NoMemory>
-    ensures { IfOk result (λ msgs. msgs.items ≡ put_on act msg) }
+/// The message as often as the act forwards it at once.
+pub fn forwards_at_once(alloc: Global, act: Act, msg: Msg) -> Result<Vec<Msg>, NoMemory>
+    ensures { IfOk result (λ msgs. msgs.items ≡ forwards_at_once act msg) }
 {
     let mut msgs = Vec::new(alloc);
     match act {
@@ -67,29 +66,33 @@ pub fn messages_of(alloc: Global, held: Vec<HeldMsg>) -> Result<Vec<Msg>, NoMemo
     Ok(msgs)
 }
 
-/// The held messages that stay, and those that are due behind what is put on.
+/// The held messages that stay; those that are due go behind what is forwarded.
 pub fn release_due(
     alloc: Global,
     held: Vec<HeldMsg>,
-    passed: &mut Vec<Msg>,
+    forwarded: &mut Vec<Msg>,
 ) -> Result<Vec<HeldMsg>, NoMemory>
     ensures kept { IfOk result (λ kept. kept.items ≡ filter (λ h. not (is_due h)) held.items) }
-    ensures due { OnOk result (passed.new.items ≡ passed.old.items ++ map (λ h. h.msg) (filter is_due held.items)) }
+    ensures due { OnOk result (forwarded.new.items ≡ forwarded.old.items ++ map (λ h. h.msg) (filter is_due held.items)) }
 {
     let mut kept = Vec::new(alloc);
     for message in held {
-        release(message, &mut kept, passed)?;
+        release(message, &mut kept, forwarded)?;
     }
     Ok(kept)
 }
 
-/// One held message, to those that stay or to those that are put on.
-fn release(message: HeldMsg, kept: &mut Vec<HeldMsg>, passed: &mut Vec<Msg>) -> Result<(), NoMemory>
-    ensures kept { OnOk result (kept.new.items ≡ kept.old.items ++ kept_of message) }
-    ensures due { OnOk result (passed.new.items ≡ passed.old.items ++ due_of message) }
+/// One held message, to those that stay or to those that are forwarded.
+fn release(
+    message: HeldMsg,
+    kept: &mut Vec<HeldMsg>,
+    forwarded: &mut Vec<Msg>,
+) -> Result<(), NoMemory>
+    ensures kept { OnOk result (kept.new.items ≡ kept.old.items ++ filter (λ h. not (is_due h)) (message ∷ [])) }
+    ensures due { OnOk result (forwarded.new.items ≡ forwarded.old.items ++ map (λ h. h.msg) (filter is_due (message ∷ []))) }
 {
     if message.count == 0 {
-        passed.push(message.msg)?;
+        forwarded.push(message.msg)?;
     } else {
         kept.push(message)?;
     }

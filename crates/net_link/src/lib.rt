@@ -1,16 +1,17 @@
 //! The link between two nodes, as a module.
 //!
 //! A link is down at first. Up tells the stores of both ends that the node at the other end can be reached, end a
-//! first, and down that it can be reached no longer. While it is up, a message from one end goes on to the store of the
+//! first, and down that it can be reached no longer. While it is up, it forwards a message from one end to the store of the
 //! other; while it is down, messages are lost.
 //!
-//! Each direction has a script, one act for each of the next messages: the link passes the message, drops it, puts it on
-//! twice, or holds it back until so many further messages of its direction have come (`direction`, over the plain bodies
-//! in `holding`). A tick passes on all that is held back, and going down loses it. The step is in `specs/Link.antt`, and
-//! `LinkModule` does exactly that step.
+//! Each direction has a script, one act for each of the next messages: the link forwards the message, drops it, forwards
+//! it twice, or holds it back until so many further messages of its direction have come (`direction`, over the plain
+//! bodies in `holding`). A tick forwards all that is held back, and going down loses it. All that holds of both ends alike
+//! is said once, of an `End`. The step is in `specs/Link.antt`, and `LinkModule` does exactly that step.
 #![tactic(auto)]
 
 mod direction;
+mod end;
 mod held;
 mod holding;
 mod link;

@@ -1,8 +1,10 @@
-ghost use Rattle.std.specs.Prelude.{◌≡◌, ◌++◌, ◌<◌, ◌^◌, IsTrue, IfOk, OnOk, map, false};
-ghost use Rattle.net_link.specs.Parts.{sent_on};
+ghost use Rattle.std.specs.Prelude.{◌≡◌, ◌++◌, [], ◌∷◌, ◌<◌, IsTrue, IfOk, OnOk, map, false};
+ghost use Rattle.or_base.specs.declared.item.Item.TheVariants.{Net};
+ghost use Rattle.or_actor.specs.declared.output.Output.TheVariants.{To};
 
 use crate::direction::LinkDirection;
-use or_actor::{Module, Outbox, STORE_PORT, STORE_PORT_AT_B, has_small_link};
+use crate::end::{End, other_end, store_port_of};
+use or_actor::{Module, Outbox, has_small_link};
 use or_base::{Act, Item, Msg, Name, NoMemory, Seq};
 use std::alloc::Global;
 use std::marker::Model;
@@ -19,14 +21,15 @@ pub struct LinkModule {
 }
 
 impl Model for LinkModule {
-    ghost use Rattle.std.specs.Prelude.{◌<◌, ◌^◌};
+    ghost use Rattle.std.specs.Prelude.{◌<◌};
+    ghost use Rattle.or_actor.specs.Fits.{link_number_end};
     ghost use Rattle.net_link.specs.Link.{LinkState};
 
     ghost Value = { LinkState };
 
     ghost view = { λ m. record { link = m.link; a = m.a; b = m.b; is_up = m.is_up; from_a = m.from_a; from_b = m.from_b } };
 
-    ghost invariant = { λ m. m.link < 2 ^ 31 };
+    ghost invariant = { λ m. m.link < link_number_end };
 }
 
 /// Sends the messages of a node to a port, in order.
@@ -37,7 +40,7 @@ fn send_all(
     from: &Name,
     msgs: Vec<Msg>,
 ) -> Result<(), NoMemory>
-    ensures { OnOk result (out.new ≡ out.old ++ map (sent_on port link from.now) msgs.items) }
+    ensures { OnOk result (out.new ≡ out.old ++ map (λ msg. To port (Net link from.now msg)) msgs.items) }
 {
     for msg in msgs {
         let from = from.copied()?;
@@ -47,12 +50,13 @@ fn send_all(
 }
 
 impl LinkModule {
-    ghost use Rattle.or_actor.specs.Fits.{has_small_link, have_small_links};
-    ghost use Rattle.net_link.specs.Link.{new_link, link_step, carry_step, script_step, flushed, flush_outputs, peers_up, peers_down, to_a, to_b, direction_after, passed_on, all_held, without_held};
+    ghost use Rattle.or_actor.specs.Fits.{link_number_end, has_small_link, have_small_links};
+    ghost use Rattle.net_link.specs.declared.end.End.TheVariants.{A, B};
+    ghost use Rattle.net_link.specs.Link.{new_link, node_at, direction_from, with_direction, end_of, message_to, peer_up_to, peer_down_to, carry_step, script_step, without_held_messages, held_from, link_step, direction_after, forwards, held_messages, without_held, with_acts};
 
-    /// A link that is down, between the nodes a and b. Its number is below 2^31. It takes no memory.
+    /// A link that is down, between the nodes a and b. Its number is below `LINK_NUMBER_END`. It takes no memory.
     pub fn new(alloc: Global, link: u32, a: Name, b: Name) -> LinkModule
-        requires { link < 2 ^ 31 }
+        requires { link < link_number_end }
         ensures { result ≡ new_link link a b }
     {
         LinkModule {
@@ -65,137 +69,128 @@ impl LinkModule {
         }
     }
 
-    /// Tells the store at each end of the node at the other.
-    fn tell_up(&self, out: &mut Outbox) -> Result<(), NoMemory>
-        ensures sent { OnOk result (out.new ≡ out.old ++ peers_up self.now) }
-        ensures small { IsTrue (have_small_links (peers_up self.now)) }
+    /// The node at an end.
+    fn node_at(&self, end: End) -> &Name
+        ensures { result.now ≡ node_at self.now end }
     {
-        let peer = self.b.copied()?;
+        match end {
+            End::A => &self.a,
+            End::B => &self.b,
+        }
+    }
+
+    /// The end of a node, if it is at one.
+    fn end_of(&self, node: &Name) -> Option<End>
+        ensures { result ≡ end_of self.now node.now }
+    {
+        if node.as_str() == self.a.as_str() {
+            Some(End::A)
+        } else if node.as_str() == self.b.as_str() {
+            Some(End::B)
+        } else {
+            None
+        }
+    }
+
+    /// Tells the store of an end that the node at the other end can be reached.
+    fn tell_up(&self, end: End, out: &mut Outbox) -> Result<(), NoMemory>
+        ensures { OnOk result (out.new ≡ out.old ++ peer_up_to self.now end ∷ []) }
+    {
+        let peer = self.node_at(other_end(end)).copied()?;
         let link = self.link;
-        out.send(STORE_PORT, Item::PeerUp { link, peer })?;
-        let peer = self.a.copied()?;
-        out.send(STORE_PORT_AT_B, Item::PeerUp { link, peer })?;
+        out.send(store_port_of(end), Item::PeerUp { link, peer })?;
         Ok(())
     }
 
-    /// Tells the store at each end that it can't reach the other any more.
-    fn tell_down(&self, out: &mut Outbox) -> Result<(), NoMemory>
-        ensures sent { OnOk result (out.new ≡ out.old ++ peers_down self.now) }
-        ensures small { IsTrue (have_small_links (peers_down self.now)) }
+    /// Tells it that the node can be reached no longer.
+    fn tell_down(&self, end: End, out: &mut Outbox) -> Result<(), NoMemory>
+        ensures { OnOk result (out.new ≡ out.old ++ peer_down_to self.now end ∷ []) }
     {
         let link = self.link;
-        out.send(STORE_PORT, Item::PeerDown { link })?;
-        out.send(STORE_PORT_AT_B, Item::PeerDown { link })?;
+        out.send(store_port_of(end), Item::PeerDown { link })?;
         Ok(())
     }
 
-    /// Sends messages of end a to the store of end b.
-    #[tactic(auto, using(crate::proofs::Sending::small_sent))]
-    fn send_to_b(&self, msgs: Vec<Msg>, out: &mut Outbox) -> Result<(), NoMemory>
-        ensures sent { OnOk result (out.new ≡ out.old ++ map (to_b self.now) msgs.items) }
-        ensures small { IsTrue (have_small_links (map (to_b self.now) msgs.items)) }
+    /// Sends messages of the other end to the store of this end.
+    fn send_to(&self, end: End, msgs: Vec<Msg>, out: &mut Outbox) -> Result<(), NoMemory>
+        ensures { OnOk result (out.new ≡ out.old ++ map (message_to self.now end) msgs.items) }
     {
-        send_all(out, STORE_PORT_AT_B, self.link, &self.a, msgs)?;
+        let from = self.node_at(other_end(end));
+        send_all(out, store_port_of(end), self.link, from, msgs)?;
         Ok(())
     }
 
-    /// Sends messages of end b to the store of end a.
-    #[tactic(auto, using(crate::proofs::Sending::small_sent))]
-    fn send_to_a(&self, msgs: Vec<Msg>, out: &mut Outbox) -> Result<(), NoMemory>
-        ensures sent { OnOk result (out.new ≡ out.old ++ map (to_a self.now) msgs.items) }
-        ensures small { IsTrue (have_small_links (map (to_a self.now) msgs.items)) }
+    /// Takes a message of an end into its direction, and answers the messages that it forwards.
+    fn take_from(&mut self, from: End, msg: Msg) -> Result<Vec<Msg>, NoMemory>
+        ensures state { OnOk result (self.new ≡ with_direction self.old from (direction_after (direction_from self.old from) msg)) }
+        ensures forwards { IfOk result (λ msgs. msgs.items ≡ forwards (direction_from self.old from) msg) }
     {
-        send_all(out, STORE_PORT, self.link, &self.b, msgs)?;
-        Ok(())
+        match from {
+            End::A => Ok(self.from_a.take(msg)?),
+            End::B => Ok(self.from_b.take(msg)?),
+        }
     }
 
-    /// Carries a message of end a.
-    fn carry_from_a(&mut self, msg: Msg, out: &mut Outbox) -> Result<(), NoMemory>
-        ensures state { OnOk result (self.new ≡ record self.old { from_a = direction_after self.old.from_a msg }) }
-        ensures sent { OnOk result (out.new ≡ out.old ++ map (to_b self.old) (passed_on self.old.from_a msg)) }
-        ensures small { OnOk result (IsTrue (have_small_links (map (to_b self.old) (passed_on self.old.from_a msg)))) }
+    /// Takes all that the direction of an end's messages holds back.
+    fn take_held_from(&mut self, from: End) -> Result<Vec<Msg>, NoMemory>
+        ensures state { OnOk result (self.new ≡ with_direction self.old from (without_held (direction_from self.old from))) }
+        ensures held { IfOk result (λ msgs. msgs.items ≡ held_messages (direction_from self.old from)) }
     {
-        let msgs = self.from_a.take(msg)?;
-        self.send_to_b(msgs, out)?;
-        Ok(())
+        match from {
+            End::A => Ok(self.from_a.take_all_held()?),
+            End::B => Ok(self.from_b.take_all_held()?),
+        }
     }
 
-    /// Carries a message of end b.
-    fn carry_from_b(&mut self, msg: Msg, out: &mut Outbox) -> Result<(), NoMemory>
-        ensures state { OnOk result (self.new ≡ record self.old { from_b = direction_after self.old.from_b msg }) }
-        ensures sent { OnOk result (out.new ≡ out.old ++ map (to_a self.old) (passed_on self.old.from_b msg)) }
-        ensures small { OnOk result (IsTrue (have_small_links (map (to_a self.old) (passed_on self.old.from_b msg)))) }
-    {
-        let msgs = self.from_b.take(msg)?;
-        self.send_to_a(msgs, out)?;
-        Ok(())
-    }
-
-    /// Carries a message of a node. That of a node that is no end is lost.
+    /// Carries a message of an end to the other. That of a node at no end is lost.
     #[tactic(auto, unfolding(crate::specs::Link::carry_step))]
-    fn carry(&mut self, from: &Name, msg: Msg, out: &mut Outbox) -> Result<(), NoMemory>
-        ensures state { OnOk result (self.new ≡ (carry_step self.old from.now msg).0) }
-        ensures sent { OnOk result (out.new ≡ out.old ++ (carry_step self.old from.now msg).1) }
-        ensures small { OnOk result (IsTrue (have_small_links (carry_step self.old from.now msg).1)) }
+    fn carry(&mut self, from: Option<End>, msg: Msg, out: &mut Outbox) -> Result<(), NoMemory>
+        ensures state { OnOk result (self.new ≡ (carry_step self.old from msg).0) }
+        ensures sent { OnOk result (out.new ≡ out.old ++ (carry_step self.old from msg).1) }
     {
-        if from.as_str() == self.a.as_str() {
-            self.carry_from_a(msg, out)?;
-        } else if from.as_str() == self.b.as_str() {
-            self.carry_from_b(msg, out)?;
+        if let Some(from) = from {
+            let msgs = self.take_from(from, msg)?;
+            self.send_to(other_end(from), msgs, out)?;
         }
         Ok(())
     }
 
-    /// Adds acts to the script of a node's direction.
+    /// Adds acts to the script of an end's direction.
     #[tactic(auto, unfolding(crate::specs::Link::script_step))]
-    fn script(&mut self, from: &Name, acts: Seq<Act>) -> Result<(), NoMemory>
-        ensures { OnOk result (self.new ≡ script_step self.old from.now acts) }
+    fn script(&mut self, from: Option<End>, acts: Seq<Act>) -> Result<(), NoMemory>
+        ensures { OnOk result (self.new ≡ script_step self.old from acts) }
     {
-        if from.as_str() == self.a.as_str() {
-            self.from_a.add_acts(acts)?;
-        } else if from.as_str() == self.b.as_str() {
-            self.from_b.add_acts(acts)?;
+        match from {
+            Some(End::A) => self.from_a.add_acts(acts)?,
+            Some(End::B) => self.from_b.add_acts(acts)?,
+            None => {}
         }
         Ok(())
     }
 
-    /// Passes on what end a's direction holds back.
-    fn flush_from_a(&mut self, out: &mut Outbox) -> Result<(), NoMemory>
-        ensures state { OnOk result (self.new ≡ record self.old { from_a = without_held self.old.from_a }) }
-        ensures sent { OnOk result (out.new ≡ out.old ++ map (to_b self.old) (all_held self.old.from_a)) }
-        ensures small { OnOk result (IsTrue (have_small_links (map (to_b self.old) (all_held self.old.from_a)))) }
+    /// Forwards what the direction of an end's messages holds back.
+    fn flush_from(&mut self, from: End, out: &mut Outbox) -> Result<(), NoMemory>
+        ensures state { OnOk result (self.new ≡ with_direction self.old from (without_held (direction_from self.old from))) }
+        ensures sent { OnOk result (out.new ≡ out.old ++ held_from self.old from) }
     {
-        let msgs = self.from_a.take_all_held()?;
-        self.send_to_b(msgs, out)?;
+        let msgs = self.take_held_from(from)?;
+        self.send_to(other_end(from), msgs, out)?;
         Ok(())
     }
 
-    /// Passes on what end b's direction holds back.
-    fn flush_from_b(&mut self, out: &mut Outbox) -> Result<(), NoMemory>
-        ensures state { OnOk result (self.new ≡ record self.old { from_b = without_held self.old.from_b }) }
-        ensures sent { OnOk result (out.new ≡ out.old ++ map (to_a self.old) (all_held self.old.from_b)) }
-        ensures small { OnOk result (IsTrue (have_small_links (map (to_a self.old) (all_held self.old.from_b)))) }
-    {
-        let msgs = self.from_b.take_all_held()?;
-        self.send_to_a(msgs, out)?;
-        Ok(())
-    }
-
-    /// Passes on all that is held back, the messages of a and then those of b.
-    #[tactic(auto, using(crate::proofs::Sending::small_sent))]
+    /// Forwards all that is held back, the messages of end a first.
     fn flush(&mut self, out: &mut Outbox) -> Result<(), NoMemory>
-        ensures state { OnOk result (self.new ≡ flushed self.old) }
-        ensures sent { OnOk result (out.new ≡ out.old ++ flush_outputs self.old) }
-        ensures small { OnOk result (IsTrue (have_small_links (flush_outputs self.old))) }
+        ensures state { OnOk result (self.new ≡ without_held_messages self.old) }
+        ensures sent { OnOk result (out.new ≡ out.old ++ (held_from self.old A ++ held_from self.old B)) }
     {
-        self.flush_from_a(out)?;
-        self.flush_from_b(out)?;
+        self.flush_from(End::A, out)?;
+        self.flush_from(End::B, out)?;
         Ok(())
     }
 
     /// Goes down, and loses all that is held back. It takes no memory.
     fn go_down(&mut self)
-        ensures { self.new ≡ record (flushed self.old) { is_up = false } }
+        ensures { self.new ≡ record (without_held_messages self.old) { is_up = false } }
     {
         self.from_a.lose_held();
         self.from_b.lose_held();
@@ -203,31 +198,34 @@ impl LinkModule {
     }
 
     /// One turn.
-    #[tactic(auto, unfolding(crate::specs::Link::link_step))]
-    pub fn step(&mut self, item: Item, out: &mut Outbox) -> Result<(), NoMemory>
+    #[tactic(auto, unfolding(crate::specs::Link::link_step), using(crate::proofs::Sending::small_step))]
+    fn step(&mut self, item: Item, out: &mut Outbox) -> Result<(), NoMemory>
         requires { IsTrue (has_small_link item) }
         ensures state { OnOk result (self.new ≡ (link_step self.old item).0) }
         ensures sent { OnOk result (out.new ≡ out.old ++ (link_step self.old item).1) }
         ensures small { OnOk result (IsTrue (have_small_links (link_step self.old item).1)) }
     {
+        let is_up = self.is_up;
         match item {
             Item::Up => {
-                if !self.is_up {
-                    self.tell_up(out)?;
+                if !is_up {
+                    self.tell_up(End::A, out)?;
+                    self.tell_up(End::B, out)?;
                     self.is_up = true;
                 }
             }
             Item::Down => {
-                if self.is_up {
-                    self.tell_down(out)?;
+                if is_up {
+                    self.tell_down(End::A, out)?;
+                    self.tell_down(End::B, out)?;
                     self.go_down();
                 }
             }
-            Item::Script { from, acts } => self.script(&from, acts)?,
+            Item::Script { from, acts } => self.script(self.end_of(&from), acts)?,
             Item::Tick { at: _ } => self.flush(out)?,
             Item::Net { link: _, from, msg } => {
-                if self.is_up {
-                    self.carry(&from, msg, out)?;
+                if is_up {
+                    self.carry(self.end_of(&from), msg, out)?;
                 }
             }
             _other => {}
@@ -238,6 +236,7 @@ impl LinkModule {
 
 impl Module for LinkModule {
     ghost use Rattle.or_actor.specs.Fits.{has_small_link};
+    ghost use Rattle.or_actor.specs.Steps.{finds_nothing};
     ghost use Rattle.net_link.specs.Link.{LinkState, link_step};
 
     ghost State = { LinkState };
@@ -245,6 +244,8 @@ impl Module for LinkModule {
     ghost state = { λ m. m };
 
     ghost may_take = { λ s item. has_small_link item };
+
+    ghost may_find = { λ s item at. finds_nothing at };
 
     ghost step = { λ s lane item at. link_step s item };
 

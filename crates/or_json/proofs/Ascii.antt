@@ -6,7 +6,7 @@ use Rattle.std.proofs.lemmas.Bool.{and_parts, and_from}
 use Rattle.std.proofs.lemmas.Bool.Decides.{nat_tests}
 use Rattle.json.proofs.Printed.Utf8.{are_ascii, IsUtf8-are_ascii}
 use Rattle.or_base.specs.Limits.{is_name_byte, is_node_name, is_interface_name}
-use Rattle.or_prefix.specs.Printing.{joined, longest_run, run_start, group_text, groups, octets, v4_text, v6_text, prefix_text}
+use Rattle.or_prefix.specs.Printing.{join_texts, longest_run, run_start, group_text, groups, octets, v4_text, v6_text, prefix_text}
 
 are_ascii-append : (xs ys : List ℕ) → are_ascii xs ≡ true → are_ascii ys ≡ true → are_ascii (xs ++ ys) ≡ true
 are_ascii-append [] ys first second = second
@@ -59,7 +59,7 @@ hex_ascii n = digits_onto_ascii 16 (λ m. omega arith) 64 n [] refl
 -- ---- prefixes
 
 module _ (separator : ℕ) (small : nat_lt separator 128 ≡ true) (one : ℕ → List ℕ) (ascii : (n : ℕ) → are_ascii (one n) ≡ true) where
-  joined_ascii : (ns : List ℕ) → are_ascii (joined separator (map one ns)) ≡ true
+  joined_ascii : (ns : List ℕ) → are_ascii (join_texts separator (map one ns)) ≡ true
   joined_ascii [] = refl
   joined_ascii (n ∷ []) = ascii n
   joined_ascii (n ∷ m ∷ ns) = are_ascii-append (one n) _ (ascii n) (and_from _ _ small (joined_ascii (m ∷ ns)))

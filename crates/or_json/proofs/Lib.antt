@@ -2,9 +2,4 @@ pub mod Texts
 pub mod Ascii
 pub mod Simple
 pub mod LinksAgain
-pub mod Cuts
-pub mod Digits
-pub mod Doubles
-pub mod Runs
-pub mod Addresses
 pub mod PrefixesAgain

@@ -13,7 +13,7 @@ use Rattle.or_base.specs.Limits.{is_between, is_node_name, is_interface_name}
 use Rattle.or_base.specs.declared.database.Adjacency.{Adjacency}
 use Rattle.or_base.specs.declared.database.AdjDb.{AdjDb}
 use Rattle.or_json.specs.Writing.{adjacency_data, adjacencies_data, adj_data, adj_text}
-use Rattle.or_json.specs.Reading.{adjacency_of, adjacencies_of, are_adjacencies, adj_db_of, adj_of, is_within, is_link_record}
+use Rattle.or_json.specs.Reading.{adjacency_of, adjacencies_of, keep_adjacencies_limits, adj_db_of, adj_of, keeps_adjacency_limits, is_link_record}
 use Rattle.or_json.proofs.Ascii.{node_name_utf8, interface_name_utf8}
 use Rattle.or_json.proofs.Simple.{IsSimple, AreSimple, json_in_text}
 
@@ -24,7 +24,7 @@ record Within (a : Adjacency) : Type 0 where
   other_if : is_interface_name a.other_if ≡ true
   metric : is_between 1 (2 ^ 31 - 1) a.metric ≡ true
 
-within : (a : Adjacency) → is_within a ≡ true → Within a
+within : (a : Adjacency) → keeps_adjacency_limits a ≡ true → Within a
 within a is =
     let last = and_parts _ _ is in
     let third = and_parts _ _ last.0 in
@@ -60,7 +60,7 @@ adjacency_says : (a : Adjacency) → Within a → of_json (outline (adjacency_da
 unfolding adjacency_data adjacency_read
 adjacency_says a w = rw (number_of-decimal a.metric (metric_fits a.metric w.metric)) refl
 
-adjacencies_say : (adjs : List Adjacency) → list_all is_within adjs ≡ true → of_items (items_outline (adjacencies_data adjs)) ≡ Some (adjacencies_read adjs)
+adjacencies_say : (adjs : List Adjacency) → list_all keeps_adjacency_limits adjs ≡ true → of_items (items_outline (adjacencies_data adjs)) ≡ Some (adjacencies_read adjs)
 unfolding adjacencies_read
 adjacencies_say [] all = refl
 adjacencies_say (a ∷ adjs) all =
@@ -74,7 +74,7 @@ adjacency_again : (a : Adjacency) → Within a → adjacency_of (adjacency_read 
 unfolding adjacency_of adjacency_read
 adjacency_again a w = rw (w.other, w.own_if, w.other_if, w.metric) refl
 
-adjacencies_again : (adjs : List Adjacency) → list_all is_within adjs ≡ true → adjacencies_of (adjacencies_read adjs) ≡ Some adjs
+adjacencies_again : (adjs : List Adjacency) → list_all keeps_adjacency_limits adjs ≡ true → adjacencies_of (adjacencies_read adjs) ≡ Some adjs
 unfolding adjacencies_read
 adjacencies_again [] all = refl
 adjacencies_again (a ∷ adjs) all =
@@ -103,7 +103,7 @@ adjacency_simple a w = (
   ),
 )
 
-adjacencies_simple : (adjs : List Adjacency) → list_all is_within adjs ≡ true → AreSimple (adjacencies_data adjs)
+adjacencies_simple : (adjs : List Adjacency) → list_all keeps_adjacency_limits adjs ≡ true → AreSimple (adjacencies_data adjs)
 adjacencies_simple [] all = tt
 adjacencies_simple (a ∷ adjs) all =
     let parts = and_parts _ _ all in
@@ -124,8 +124,8 @@ adj_depth db = omega (arith, adjacencies_depth db.adjacencies)
 -- the limits of a record
 record Link (db : AdjDb) : Type 0 where
   node : is_node_name db.node ≡ true
-  each : list_all is_within db.adjacencies ≡ true
-  all : are_adjacencies db.adjacencies ≡ true
+  each : list_all keeps_adjacency_limits db.adjacencies ≡ true
+  all : keep_adjacencies_limits db.adjacencies ≡ true
 
 link : (db : AdjDb) → is_link_record db ≡ true → Link db
 unfolding is_link_record

@@ -19,43 +19,10 @@ use Rattle.or_base.proofs.Prefixes.{prefix_from_parts}
 use Rattle.or_prefix.specs.Reading.{Form, is_digit, decimal_value, pieces, has_colon, address_of, form_from, form_of, prefix_of}
 use Rattle.or_prefix.specs.Printing.{groups, octets, v6_text, v4_text, prefix_text}
 use Rattle.or_json.specs.Writing.{entry_data, entries_data, prefixes_data, prefixes_text}
-use Rattle.or_json.specs.Reading.{entry_of, entries_of, are_entries, prefix_db_of, prefixes_of, is_entry_within, is_prefix_record}
+use Rattle.or_json.specs.Reading.{prefix_entry_read, prefix_entries_read, keep_entries_limits, prefix_db_of, prefixes_of, keeps_entry_limits, is_prefix_record}
+use Rattle.or_prefix.proofs.PrintedPrefixes.{prefix_again}
 use Rattle.or_json.proofs.Ascii.{node_name_utf8, prefix_utf8}
 use Rattle.or_json.proofs.Simple.{IsSimple, AreSimple, json_in_text}
-use Rattle.or_json.proofs.Cuts.{passing, pieces_whole, pieces_cut}
-use Rattle.or_json.proofs.Digits.{octet_again, decimal_again}
-use Rattle.or_json.proofs.Addresses.{IsAddress, is_address}
-
--- ---- the prefix
-
-formed : Bool → ℕ → Option ℕ → Option Form
-formed v6 len bits = option_map (λ b. record { v6 = v6; bits = b; len = len }) bits
-
-form_again : (v6 : Bool) (bits len : ℕ) (address : List ℕ) → IsAddress v6 bits address → len < 256
-    → form_of ((address ++ codes "/") ++ decimal len) ≡ Some (record { v6 = v6; bits = bits; len = len })
-unfolding form_of formed
-form_again v6 bits len address is small =
-    let short = and_parts _ _ (octet_again len small) in
-    let digits = and_parts _ _ (and_parts _ _ short.0).0 in
-    ap (λ text. form_from (pieces 47 text)) (append_assoc address (codes "/") (decimal len))
-    ∙ ap form_from (pieces_cut 47 address (decimal len) is.free ∙ ap (λ ps. address ∷ ps) (pieces_whole 47 (decimal len) (passing is_digit 47 (decimal len) refl digits.1)))
-    ∙ ap (λ t. cond t (formed (has_colon address) (decimal_value (decimal len)) (address_of address)) None) short.0
-    ∙ ap (λ a. formed (has_colon address) (decimal_value (decimal len)) a) is.address
-    ∙ ap (λ t. Some (record { v6 = t; bits = bits; len = decimal_value (decimal len) })) is.colon
-    ∙ ap (λ n. Some (record { v6 = v6; bits = bits; len = n })) (decimal_again len small)
-
-width : (v6 : Bool) (len : ℕ) → len ≤ address_bits v6 → len < 256
-width true len fits = omega arith
-width false len fits = omega arith
-
-pub prefix_again : (p : Prefix) → prefix_of (prefix_text p.v6 p.bits p.len) ≡ Some p
-unfolding prefix_of prefix_text
-prefix_again p =
-    let parts = and_parts _ _ (and_parts _ _ p.sound).0 in
-    let address = is_address p.v6 p.bits (ltb-true _ _ parts.1) in
-    let small = width p.v6 p.len (leb-true _ _ parts.0) in
-    ap (option_and_then (λ form. prefix_from form.v6 form.bits form.len)) (form_again p.v6 p.bits p.len (cond p.v6 (v6_text (groups p.bits)) (v4_text (octets p.bits))) address small)
-    ∙ prefix_from_parts p.v6 p.bits p.len p.sound
 
 -- ---- the entries
 
@@ -64,7 +31,7 @@ record Within (e : PrefixEntry) : Type 0 where
   source : e.source ≤ 2 ^ 31 - 1
   distance : e.distance ≤ 2 ^ 31 - 1
 
-within : (e : PrefixEntry) → is_entry_within e ≡ true → Within e
+within : (e : PrefixEntry) → keeps_entry_limits e ≡ true → Within e
 within e is =
     let last = and_parts _ _ is in
     let first = and_parts _ _ last.0 in
@@ -97,7 +64,7 @@ entry_says e w =
     let distance : e.distance < 2 ^ 64 = omega (arith, w.distance) in
     rw (number_of-decimal e.path path) (rw (number_of-decimal e.source source) (rw (number_of-decimal e.distance distance) refl))
 
-entries_say : (entries : List PrefixEntry) → list_all is_entry_within entries ≡ true → of_items (items_outline (entries_data entries)) ≡ Some (entries_read entries)
+entries_say : (entries : List PrefixEntry) → list_all keeps_entry_limits entries ≡ true → of_items (items_outline (entries_data entries)) ≡ Some (entries_read entries)
 unfolding entries_read
 entries_say [] all = refl
 entries_say (e ∷ entries) all =
@@ -105,12 +72,12 @@ entries_say (e ∷ entries) all =
     ap (option_and_then (λ d. option_map (item d) (of_items (items_outline (entries_data entries))))) (entry_says e (within e parts.0))
     ∙ ap (option_map (item (entry_read e))) (entries_say entries parts.1)
 
-entry_again : (e : PrefixEntry) → Within e → entry_of (entry_read e) ≡ Some e
-unfolding entry_of entry_read
+entry_again : (e : PrefixEntry) → Within e → prefix_entry_read (entry_read e) ≡ Some e
+unfolding prefix_entry_read entry_read
 entry_again e w =
     rw (prefix_again e.prefix) (rw (between e.path w.path) (rw (between e.source w.source) (rw (between e.distance w.distance) refl)))
 
-entries_again : (entries : List PrefixEntry) → list_all is_entry_within entries ≡ true → entries_of (entries_read entries) ≡ Some entries
+entries_again : (entries : List PrefixEntry) → list_all keeps_entry_limits entries ≡ true → prefix_entries_read (entries_read entries) ≡ Some entries
 unfolding entries_read
 entries_again [] all = refl
 entries_again (e ∷ entries) all =
@@ -132,7 +99,7 @@ entry_simple e w =
       ),
     )
 
-entries_simple : (entries : List PrefixEntry) → list_all is_entry_within entries ≡ true → AreSimple (entries_data entries)
+entries_simple : (entries : List PrefixEntry) → list_all keeps_entry_limits entries ≡ true → AreSimple (entries_data entries)
 entries_simple [] all = tt
 entries_simple (e ∷ entries) all =
     let parts = and_parts _ _ all in
@@ -154,8 +121,8 @@ prefixes_depth db = omega (arith, entries_depth db.entries)
 
 record Limits (db : PrefixDb) : Type 0 where
   node : is_node_name db.node ≡ true
-  each : list_all is_entry_within db.entries ≡ true
-  all : are_entries db.entries ≡ true
+  each : list_all keeps_entry_limits db.entries ≡ true
+  all : keep_entries_limits db.entries ≡ true
 
 limits : (db : PrefixDb) → is_prefix_record db ≡ true → Limits db
 unfolding is_prefix_record

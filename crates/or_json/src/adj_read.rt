@@ -1,9 +1,9 @@
 ghost use Rattle.std.specs.Prelude.{◌≡◌, IfOk, option_map};
 ghost use Rattle.serde_json.specs.View.{view, items_view};
-ghost use Rattle.or_json.specs.Reading.{adjacency_of, adjacencies_of, is_over, are_over_distinct, are_adjacencies, adj_db_of, adj_of};
+ghost use Rattle.or_json.specs.Reading.{adjacency_of, adjacencies_of, has_interface, have_distinct_interfaces, keep_adjacencies_limits, adj_db_of, adj_of};
 
-use crate::object::{MOST, flag_at, interface_name_at, items_at, json_in, node_name_at, number_at};
-use or_base::{AdjDb, Adjacency, NoMemory, Seq};
+use crate::object::{flag_at, interface_name_at, items_at, json_in, node_name_at, number_at};
+use or_base::{AdjDb, Adjacency, MOST_ADJACENCIES, MOST_METRIC, NoMemory, Seq};
 use serde_json::Value;
 use std::alloc::Global;
 
@@ -21,7 +21,7 @@ fn adjacency_of(alloc: Global, value: &Value) -> Result<Option<Adjacency>, NoMem
     let Some(other_if) = interface_name_at(alloc, value, "other_if")? else {
         return Ok(None);
     };
-    let Some(metric) = number_at(1, MOST, value, "metric") else {
+    let Some(metric) = number_at(1, MOST_METRIC, value, "metric") else {
         return Ok(None);
     };
     let Some(overload) = flag_at(value, "overload") else {
@@ -51,19 +51,19 @@ fn adjacencies_of(alloc: Global, values: &[Value]) -> Result<Option<Vec<Adjacenc
 }
 
 /// One of them is over this interface.
-fn is_over(adjacencies: &[Adjacency], interface: &str) -> bool
-    ensures { result ≡ is_over adjacencies.now interface.now }
+fn has_interface(adjacencies: &[Adjacency], interface: &str) -> bool
+    ensures { result ≡ has_interface adjacencies.now interface.now }
 {
     adjacencies.iter().any(|a| a.own_if.as_str() == interface)
 }
 
-/// No interface stands twice.
-fn are_over_distinct(adjacencies: &[Adjacency]) -> bool
-    ensures { result ≡ are_over_distinct adjacencies.now }
+/// No interface is named twice.
+fn have_distinct_interfaces(adjacencies: &[Adjacency]) -> bool
+    ensures { result ≡ have_distinct_interfaces adjacencies.now }
 {
     let mut left = adjacencies;
     while let Some((first, rest)) = left.split_first() {
-        if is_over(rest, first.own_if.as_str()) {
+        if has_interface(rest, first.own_if.as_str()) {
             return false;
         }
         left = rest;
@@ -71,11 +71,11 @@ fn are_over_distinct(adjacencies: &[Adjacency]) -> bool
     true
 }
 
-/// At most 24 adjacencies, over distinct interfaces.
-fn are_adjacencies(adjacencies: &[Adjacency]) -> bool
-    ensures { result ≡ are_adjacencies adjacencies.now }
+/// At most `MOST_ADJACENCIES` adjacencies, over distinct interfaces.
+fn keep_adjacencies_limits(adjacencies: &[Adjacency]) -> bool
+    ensures { result ≡ keep_adjacencies_limits adjacencies.now }
 {
-    adjacencies.len() <= 24 && are_over_distinct(adjacencies)
+    adjacencies.len() <= MOST_ADJACENCIES && have_distinct_interfaces(adjacencies)
 }
 
 /// The link record that a value is.
@@ -95,7 +95,7 @@ fn adj_db_of(alloc: Global, value: &Value) -> Result<Option<AdjDb>, NoMemory>
     let Some(adjacencies) = adjacencies_of(alloc, items)? else {
         return Ok(None);
     };
-    if !are_adjacencies(adjacencies.as_slice()) {
+    if !keep_adjacencies_limits(adjacencies.as_slice()) {
         return Ok(None);
     }
     Ok(Some(AdjDb {
@@ -106,7 +106,7 @@ fn adj_db_of(alloc: Global, value: &Value) -> Result<Option<AdjDb>, NoMemory>
 }
 
 /// The link record that a text is. None where it is none.
-pub fn adj_of_text(alloc: Global, text: &[u8]) -> Result<Option<AdjDb>, NoMemory>
+pub fn adj_of(alloc: Global, text: &[u8]) -> Result<Option<AdjDb>, NoMemory>
     ensures { IfOk result (λ found. found ≡ adj_of text.now) }
 {
     match json_in(alloc, text)? {

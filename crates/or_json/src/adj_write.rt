@@ -53,7 +53,7 @@ fn write_adj_db(out: &mut Writer, db: &AdjDb) -> Result<(), NoMemory>
 
 /// The text of a link record. A record that keeps the limits is the reading of its text.
 #[tactic(auto, using(crate::proofs::Texts::text_of_tokens, crate::proofs::LinksAgain::link_again))]
-pub fn adj_to_text(alloc: Global, db: &AdjDb) -> Result<Bytes, NoMemory>
+pub fn adj_text(alloc: Global, db: &AdjDb) -> Result<Bytes, NoMemory>
     ensures text { IfOk result (λ text. text ≡ adj_text db.now) }
     ensures read_again { IsTrue (is_link_record db.now) → adj_of (adj_text db.now) ≡ Some db.now }
 {

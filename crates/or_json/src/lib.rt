@@ -16,10 +16,8 @@ mod member;
 mod object;
 mod prefix_read;
 mod prefix_write;
-#[cfg(test)]
-mod tests;
 
-pub use adj_read::adj_of_text;
-pub use adj_write::adj_to_text;
-pub use prefix_read::prefixes_of_text;
-pub use prefix_write::prefixes_to_text;
+pub use adj_read::adj_of;
+pub use adj_write::adj_text;
+pub use prefix_read::prefixes_of;
+pub use prefix_write::prefixes_text;

@@ -9,9 +9,6 @@ use or_prefix::read_prefix;
 use serde_json::Value;
 use std::alloc::Global;
 
-/// The most that a number may be: 2^31 - 1.
-pub const MOST: u32 = 0x7fff_ffff;
-
 /// The JSON value that a text is. None where it is none, or isn't UTF-8.
 #[tactic(auto, unfolding(crate::specs::Reading::json_in), using(crate::proofs::Texts::json_in_utf8, crate::proofs::Texts::json_in_none))]
 pub fn json_in(alloc: Global, text: &[u8]) -> Result<Option<Value>, NoMemory>

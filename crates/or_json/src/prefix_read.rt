@@ -1,21 +1,21 @@
 ghost use Rattle.std.specs.Prelude.{◌≡◌, IfOk, option_map};
 ghost use Rattle.serde_json.specs.View.{view, items_view};
-ghost use Rattle.or_json.specs.Reading.{entry_of, entries_of, is_offered, are_of_distinct, are_entries, prefix_db_of, prefixes_of};
+ghost use Rattle.or_json.specs.Reading.{prefix_entry_read, prefix_entries_read, has_prefix, have_distinct_prefixes, keep_entries_limits, prefix_db_of, prefixes_of};
 
-use crate::object::{MOST, items_at, json_in, node_name_at, number_at, prefix_at};
-use or_base::{NoMemory, Prefix, PrefixDb, PrefixEntry, Seq};
+use crate::object::{items_at, json_in, node_name_at, number_at, prefix_at};
+use or_base::{MOST_PREFERENCE, MOST_PREFIX_ENTRIES, NoMemory, Prefix, PrefixDb, PrefixEntry, Seq};
 use serde_json::Value;
 use std::alloc::Global;
 
 /// The entry that a value is.
-#[tactic(auto, unfolding(crate::specs::Reading::entry_of))]
-fn entry_of(value: &Value) -> Option<PrefixEntry>
-    ensures { result ≡ entry_of (view value.now) }
+#[tactic(auto, unfolding(crate::specs::Reading::prefix_entry_read))]
+fn prefix_entry_read(value: &Value) -> Option<PrefixEntry>
+    ensures { result ≡ prefix_entry_read (view value.now) }
 {
     let prefix = prefix_at(value, "prefix")?;
-    let path = number_at(0, MOST, value, "path")?;
-    let source = number_at(0, MOST, value, "source")?;
-    let distance = number_at(0, MOST, value, "distance")?;
+    let path = number_at(0, MOST_PREFERENCE, value, "path")?;
+    let source = number_at(0, MOST_PREFERENCE, value, "source")?;
+    let distance = number_at(0, MOST_PREFERENCE, value, "distance")?;
     Some(PrefixEntry {
         prefix,
         path,
@@ -25,12 +25,12 @@ fn entry_of(value: &Value) -> Option<PrefixEntry>
 }
 
 /// The entries that values are.
-fn entries_of(alloc: Global, values: &[Value]) -> Result<Option<Vec<PrefixEntry>>, NoMemory>
-    ensures { IfOk result (λ found. option_map (λ all. all.items) found ≡ entries_of (items_view values.now)) }
+fn prefix_entries_read(alloc: Global, values: &[Value]) -> Result<Option<Vec<PrefixEntry>>, NoMemory>
+    ensures { IfOk result (λ found. option_map (λ all. all.items) found ≡ prefix_entries_read (items_view values.now)) }
 {
     let mut read = Vec::new(alloc);
     for value in values {
-        let Some(entry) = entry_of(value) else {
+        let Some(entry) = prefix_entry_read(value) else {
             return Ok(None);
         };
         read.push(entry)?;
@@ -39,19 +39,19 @@ fn entries_of(alloc: Global, values: &[Value]) -> Result<Option<Vec<PrefixEntry>
 }
 
 /// The prefix is that of one of them.
-fn is_offered(entries: &[PrefixEntry], prefix: &Prefix) -> bool
-    ensures { result ≡ is_offered entries.now prefix.now }
+fn has_prefix(entries: &[PrefixEntry], prefix: &Prefix) -> bool
+    ensures { result ≡ has_prefix entries.now prefix.now }
 {
-    entries.iter().any(|e| e.prefix.is_same(prefix))
+    entries.iter().any(|e| e.prefix.is_same_prefix(prefix))
 }
 
-/// No prefix stands twice.
-fn are_of_distinct(entries: &[PrefixEntry]) -> bool
-    ensures { result ≡ are_of_distinct entries.now }
+/// No prefix is there twice.
+fn have_distinct_prefixes(entries: &[PrefixEntry]) -> bool
+    ensures { result ≡ have_distinct_prefixes entries.now }
 {
     let mut left = entries;
     while let Some((first, rest)) = left.split_first() {
-        if is_offered(rest, &first.prefix) {
+        if has_prefix(rest, &first.prefix) {
             return false;
         }
         left = rest;
@@ -59,11 +59,11 @@ fn are_of_distinct(entries: &[PrefixEntry]) -> bool
     true
 }
 
-/// At most 32 entries, of distinct prefixes.
-fn are_entries(entries: &[PrefixEntry]) -> bool
-    ensures { result ≡ are_entries entries.now }
+/// At most `MOST_PREFIX_ENTRIES` entries, of distinct prefixes.
+fn keep_entries_limits(entries: &[PrefixEntry]) -> bool
+    ensures { result ≡ keep_entries_limits entries.now }
 {
-    entries.len() <= 32 && are_of_distinct(entries)
+    entries.len() <= MOST_PREFIX_ENTRIES && have_distinct_prefixes(entries)
 }
 
 /// The prefix record that a value is.
@@ -77,10 +77,10 @@ fn prefix_db_of(alloc: Global, value: &Value) -> Result<Option<PrefixDb>, NoMemo
     let Some(items) = items_at(value, "entries") else {
         return Ok(None);
     };
-    let Some(entries) = entries_of(alloc, items)? else {
+    let Some(entries) = prefix_entries_read(alloc, items)? else {
         return Ok(None);
     };
-    if !are_entries(entries.as_slice()) {
+    if !keep_entries_limits(entries.as_slice()) {
         return Ok(None);
     }
     Ok(Some(PrefixDb {
@@ -90,7 +90,7 @@ fn prefix_db_of(alloc: Global, value: &Value) -> Result<Option<PrefixDb>, NoMemo
 }
 
 /// The prefix record that a text is. None where it is none.
-pub fn prefixes_of_text(alloc: Global, text: &[u8]) -> Result<Option<PrefixDb>, NoMemory>
+pub fn prefixes_of(alloc: Global, text: &[u8]) -> Result<Option<PrefixDb>, NoMemory>
     ensures { IfOk result (λ found. found ≡ prefixes_of text.now) }
 {
     match json_in(alloc, text)? {

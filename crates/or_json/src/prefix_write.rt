@@ -10,7 +10,7 @@ ghost use Rattle.or_json.specs.Reading.{prefixes_of, is_prefix_record};
 use crate::member::{write_number, write_text};
 use json::Writer;
 use or_base::{Bytes, NoMemory, Prefix, PrefixDb, PrefixEntry};
-use or_prefix::print_prefix;
+use or_prefix::prefix_text;
 use std::alloc::Global;
 use std::str;
 
@@ -24,7 +24,7 @@ fn write_prefix(
     ensures { OnOk result (Appends out.old out.new
         (key name.now ∷ string (prefix_text prefix.now.v6 prefix.now.bits prefix.now.len) ∷ [])) }
 {
-    let text = print_prefix(alloc, prefix)?;
+    let text = prefix_text(alloc, prefix)?;
     match str::from_utf8(text.as_slice()) {
         Ok(text) => write_text(out, name, text),
         // A prefix is printed in ASCII.
@@ -73,7 +73,7 @@ fn write_prefix_db(alloc: Global, out: &mut Writer, db: &PrefixDb) -> Result<(),
 
 /// The text of a prefix record. A record that keeps the limits is the reading of its text.
 #[tactic(auto, using(crate::proofs::Texts::text_of_tokens, crate::proofs::PrefixesAgain::prefixes_again))]
-pub fn prefixes_to_text(alloc: Global, db: &PrefixDb) -> Result<Bytes, NoMemory>
+pub fn prefixes_text(alloc: Global, db: &PrefixDb) -> Result<Bytes, NoMemory>
     ensures text { IfOk result (λ text. text ≡ prefixes_text db.now) }
     ensures read_again { IsTrue (is_prefix_record db.now) → prefixes_of (prefixes_text db.now) ≡ Some db.now }
 {

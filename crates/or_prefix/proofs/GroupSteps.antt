@@ -7,7 +7,7 @@ use Rattle.std.proofs.Math.Nat.{pow-le-pow_right, mul_comm}
 use Rattle.std.proofs.lemmas.Grind.{pow_more}
 use Rattle.std.proofs.lemmas.List.{length-map}
 use Rattle.or_prefix.specs.Reading.{pieces, is_group, group_value, groups_in}
-use Rattle.or_prefix.specs.Steps.{counted}
+use Rattle.or_prefix.specs.Steps.{value_and_count_in}
 
 -- the number and the count after more pieces, of which each is a group
 abbrev pub groups_after : ℕ → ℕ → List (List ℕ) → Option (ℕ × ℕ)
@@ -51,13 +51,13 @@ groups_after_is (text ∷ texts) bits count total few sum =
 
 counted_if : (texts : List (List ℕ)) (test : Bool)
     → cond (test && nat_le (length texts) 8) (Some (after_value 0 texts, length texts)) None
-    ≡ counted (cond test (Some (map group_value texts)) None)
+    ≡ value_and_count_in (cond test (Some (map group_value texts)) None)
 unfolding after_value
 counted_if texts false = refl
 counted_if texts true = rw (length-map texts group_value) refl
 
 -- all the pieces of a text
-pub groups_after_all : (text : List ℕ) → groups_after 0 0 (pieces 58 text) ≡ counted (groups_in text)
+pub groups_after_all : (text : List ℕ) → groups_after 0 0 (pieces 58 text) ≡ value_and_count_in (groups_in text)
 unfolding groups_in outcome
 groups_after_all text =
     groups_after_is (pieces 58 text) 0 0 (length (pieces 58 text)) (omega arith) (omega arith)

@@ -8,7 +8,7 @@ use Rattle.std.proofs.lemmas.Bool.{leb-true, leb-false, eqb-true}
 use Rattle.std.proofs.Math.Nat.{pow-succ', mul_assoc}
 use Rattle.or_prefix.specs.declared.groups.Groups.{Groups}
 use Rattle.or_prefix.specs.Reading.{groups_in, groups_beside, all_groups, filled_groups, groups_around, around_double, v6_address}
-use Rattle.or_prefix.specs.Steps.{groups_value, counted, value_and_count}
+use Rattle.or_prefix.specs.Steps.{groups_value, value_and_count_in, value_and_count}
 
 value_from : ℕ → List ℕ → ℕ
 value_from n groups = fold (λ m g. 65536 * m + g) n groups
@@ -53,12 +53,12 @@ whole_if groups true false is_few is_all = sym (ap (λ t. cond t (Some (groups_v
 whole_if groups false true is_few is_all = absurd (omega (arith, leb-false (length groups) 8 is_few, eqb-true (length groups) 8 is_all))
 whole_if groups false false is_few is_all = refl
 
-whole : (groups : Option (List ℕ)) → option_map groups_value (option_and_then all_groups groups) ≡ option_and_then of_eight (counted groups)
+whole : (groups : Option (List ℕ)) → option_map groups_value (option_and_then all_groups groups) ≡ option_and_then of_eight (value_and_count_in groups)
 whole None = refl
 whole (Some groups) = whole_if groups (nat_le (length groups) 8) (length groups == 8) refl refl
 
 -- without `::`
-pub v6_whole : (text : List ℕ) → around_double text ≡ None → v6_address text ≡ option_and_then of_eight (counted (groups_in text))
+pub v6_whole : (text : List ℕ) → around_double text ≡ None → v6_address text ≡ option_and_then of_eight (value_and_count_in (groups_in text))
 unfolding v6_address
 v6_whole text none = ap (λ halves. option_map groups_value (groups_around halves text)) none ∙ whole (groups_in text)
 
@@ -84,38 +84,38 @@ filled_if b h false few_h false is_b is_h is = refl
 
 filled : (before behind : Option (List ℕ))
     → option_map groups_value (option_and_then (λ b. option_and_then (λ h. filled_groups b h) behind) before)
-    ≡ option_and_then (λ b. option_and_then (λ h. of_filled b h) (counted behind)) (counted before)
+    ≡ option_and_then (λ b. option_and_then (λ h. of_filled b h) (value_and_count_in behind)) (value_and_count_in before)
 filled None behind = refl
 filled (Some b) None = no_behind (nat_le (length b) 8) (groups_value b, length b)
 filled (Some b) (Some h) = filled_if b h (nat_le (length b) 8) (nat_le (length h) 8) (nat_le (length b + length h) 7) refl refl refl
 
 -- around `::`
 around : (text before behind : List ℕ) → around_double text ≡ Some (before, behind)
-    → v6_address text ≡ option_and_then (λ b. option_and_then (λ h. of_filled b h) (counted (groups_beside behind))) (counted (groups_beside before))
+    → v6_address text ≡ option_and_then (λ b. option_and_then (λ h. of_filled b h) (value_and_count_in (groups_beside behind))) (value_and_count_in (groups_beside before))
 unfolding v6_address
 around text before behind found =
     ap (λ halves. option_map groups_value (groups_around halves text)) found ∙ filled (groups_beside before) (groups_beside behind)
 
 -- no groups before it
-pub v6_no_before : (text before behind : List ℕ) → around_double text ≡ Some (before, behind) → None ≡ counted (groups_beside before)
+pub v6_no_before : (text before behind : List ℕ) → around_double text ≡ Some (before, behind) → None ≡ value_and_count_in (groups_beside before)
     → v6_address text ≡ None
 v6_no_before text before behind found is =
     around text before behind found
-    ∙ ap (λ c. option_and_then (λ b. option_and_then (λ h. of_filled b h) (counted (groups_beside behind))) c) (sym is)
+    ∙ ap (λ c. option_and_then (λ b. option_and_then (λ h. of_filled b h) (value_and_count_in (groups_beside behind))) c) (sym is)
 
 -- no groups behind it
 pub v6_no_behind : (text before behind : List ℕ) (b : Groups) → around_double text ≡ Some (before, behind)
-    → Some (value_and_count b) ≡ counted (groups_beside before) → None ≡ counted (groups_beside behind) → v6_address text ≡ None
+    → Some (value_and_count b) ≡ value_and_count_in (groups_beside before) → None ≡ value_and_count_in (groups_beside behind) → v6_address text ≡ None
 v6_no_behind text before behind b found is_b is_h =
     around text before behind found
-    ∙ ap (λ c. option_and_then (λ x. option_and_then (λ y. of_filled x y) (counted (groups_beside behind))) c) (sym is_b)
+    ∙ ap (λ c. option_and_then (λ x. option_and_then (λ y. of_filled x y) (value_and_count_in (groups_beside behind))) c) (sym is_b)
     ∙ ap (λ c. option_and_then (λ y. of_filled (value_and_count b) y) c) (sym is_h)
 
 -- groups on both sides
 pub v6_joined : (text before behind : List ℕ) (b h : Groups) → around_double text ≡ Some (before, behind)
-    → Some (value_and_count b) ≡ counted (groups_beside before) → Some (value_and_count h) ≡ counted (groups_beside behind)
+    → Some (value_and_count b) ≡ value_and_count_in (groups_beside before) → Some (value_and_count h) ≡ value_and_count_in (groups_beside behind)
     → v6_address text ≡ cond (nat_le (b.count + h.count) 7) (Some (b.bits * 65536 ^ (8 - b.count) + h.bits)) None
 v6_joined text before behind b h found is_b is_h =
     around text before behind found
-    ∙ ap (λ c. option_and_then (λ x. option_and_then (λ y. of_filled x y) (counted (groups_beside behind))) c) (sym is_b)
+    ∙ ap (λ c. option_and_then (λ x. option_and_then (λ y. of_filled x y) (value_and_count_in (groups_beside behind))) c) (sym is_b)
     ∙ ap (λ c. option_and_then (λ y. of_filled (value_and_count b) y) c) (sym is_h)

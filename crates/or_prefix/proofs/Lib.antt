@@ -8,3 +8,9 @@ pub mod Shifts
 pub mod Forms
 pub mod Runs
 pub mod Lengths
+pub mod PrintedCuts
+pub mod PrintedDigits
+pub mod PrintedRuns
+pub mod PrintedDoubles
+pub mod PrintedAddresses
+pub mod PrintedPrefixes

@@ -3,10 +3,10 @@ use Rattle.std.specs.Prelude.{ℕ, ◌+◌, ◌/◌, ◌%◌, ◌^◌, max, List
 use Rattle.std.specs.Fmt.{decimal, digits}
 
 -- texts joined by a byte
-abbrev pub joined : ℕ → List (List ℕ) → List ℕ
-joined separator [] = []
-joined separator (text ∷ []) = text
-joined separator (text ∷ other ∷ others) = text ++ separator ∷ joined separator (other ∷ others)
+abbrev pub join_texts : ℕ → List (List ℕ) → List ℕ
+join_texts separator [] = []
+join_texts separator (text ∷ []) = text
+join_texts separator (text ∷ other ∷ others) = text ++ separator ∷ join_texts separator (other ∷ others)
 
 -- the four numbers of an IPv4 address, and the eight groups of an IPv6 address, the highest first
 abbrev pub octets : ℕ → List ℕ
@@ -34,7 +34,7 @@ run_start run (group ∷ others) = if zero_run (group ∷ others) == run then 0 
 
 -- groups in lower case hexadecimal without leading zeros, joined by colons
 abbrev pub group_text : List ℕ → List ℕ
-group_text gs = joined 58 (map (digits 16 false) gs)
+group_text gs = join_texts 58 (map (digits 16 false) gs)
 
 -- the longest run of at least two groups of 0, the first of equal runs, is written `::`
 unfoldable pub v6_text : List ℕ → List ℕ
@@ -45,7 +45,7 @@ v6_text gs =
     else group_text (take start gs) ++ codes "::" ++ group_text (drop (start + run) gs)
 
 unfoldable pub v4_text : List ℕ → List ℕ
-v4_text os = joined 46 (map decimal os)
+v4_text os = join_texts 46 (map decimal os)
 
 -- the address, `/` and the length
 unfoldable pub prefix_text : Bool → ℕ → ℕ → List ℕ

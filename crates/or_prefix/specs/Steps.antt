@@ -28,8 +28,8 @@ groups_value groups = fold (λ n g. 65536 * n + g) 0 groups
 abbrev pub few_groups : List ℕ → Option (ℕ × ℕ)
 few_groups groups = if nat_le (length groups) 8 then Some (groups_value groups, length groups) else None
 
-abbrev pub counted : Option (List ℕ) → Option (ℕ × ℕ)
-counted groups = option_and_then few_groups groups
+abbrev pub value_and_count_in : Option (List ℕ) → Option (ℕ × ℕ)
+value_and_count_in groups = option_and_then few_groups groups
 
 -- the same of groups that were read
 abbrev pub value_and_count : Groups → ℕ × ℕ

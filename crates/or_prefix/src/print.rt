@@ -108,7 +108,7 @@ fn v4_text(out: &mut String, bits: u128) -> Result<(), NoMemory>
 
 /// The prefix as text: the address, `/` and the length.
 #[tactic(auto, unfolding(crate::specs::Printing::prefix_text))]
-pub fn print_prefix(alloc: Global, prefix: &Prefix) -> Result<Vec<u8>, NoMemory>
+pub fn prefix_text(alloc: Global, prefix: &Prefix) -> Result<Vec<u8>, NoMemory>
     ensures text { IfOk result (λ text. text.items ≡ prefix_text prefix.now.v6 prefix.now.bits prefix.now.len) }
     ensures utf8 { IfOk result (λ text. IsUtf8 text.items) }
 {

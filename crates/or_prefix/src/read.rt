@@ -7,8 +7,8 @@ use crate::address::Address;
 use crate::decimal::read_short_decimal;
 use crate::fault::PrefixFault;
 use crate::pieces::cut;
-use crate::v4::read_v4;
-use crate::v6::read_v6;
+use crate::v4::v4_address;
+use crate::v6::v6_address;
 use or_base::Prefix;
 
 fn has_colon(text: &[u8]) -> bool
@@ -23,10 +23,10 @@ fn read_address(text: &[u8]) -> Option<Address>
     ensures v6 { IfSome result (λ a. a.v6 ≡ has_colon text.now) }
 {
     if has_colon(text) {
-        let bits = read_v6(text)?;
+        let bits = v6_address(text)?;
         Some(Address { v6: true, bits })
     } else {
-        let bits = u128::from(read_v4(text)?);
+        let bits = u128::from(v4_address(text)?);
         Some(Address { v6: false, bits })
     }
 }

@@ -6,7 +6,7 @@ use crate::pieces::cut;
 
 /// An IPv4 address in dotted decimal, as a number.
 #[tactic(auto, using(crate::proofs::Octets::v4_steps))]
-pub fn read_v4(text: &[u8]) -> Option<u32>
+pub fn v4_address(text: &[u8]) -> Option<u32>
     ensures { result ≡ v4_address (pieces 46 text.now) }
 {
     let (first, rest) = cut(b'.', text)?;

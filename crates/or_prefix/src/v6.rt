@@ -1,7 +1,7 @@
 ghost use Rattle.std.specs.Prelude.{◌≡◌, Some, None};
 ghost use Rattle.std.specs.Option.{option_map};
 ghost use Rattle.or_prefix.specs.Reading.{around_double, groups_beside, groups_in, v6_address};
-ghost use Rattle.or_prefix.specs.Steps.{counted, value_and_count};
+ghost use Rattle.or_prefix.specs.Steps.{value_and_count_in, value_and_count};
 
 use crate::groups::{Groups, join};
 use crate::hex::read_group;
@@ -10,7 +10,7 @@ use crate::pieces::{cut, cut_double};
 /// One to eight groups joined by colons.
 #[tactic(auto, using(crate::proofs::GroupSteps::groups_after_all))]
 fn read_groups(text: &[u8]) -> Option<Groups>
-    ensures { option_map value_and_count result ≡ counted (groups_in text.now) }
+    ensures { option_map value_and_count result ≡ value_and_count_in (groups_in text.now) }
 {
     let mut groups = Groups::none();
     let mut rest = text;
@@ -23,7 +23,7 @@ fn read_groups(text: &[u8]) -> Option<Groups>
 
 /// The same, or no group where the text is empty.
 fn read_groups_beside(text: &[u8]) -> Option<Groups>
-    ensures { option_map value_and_count result ≡ counted (groups_beside text.now) }
+    ensures { option_map value_and_count result ≡ value_and_count_in (groups_beside text.now) }
 {
     if text.is_empty() {
         Some(Groups::none())
@@ -47,7 +47,7 @@ fn read_whole(text: &[u8]) -> Option<u128>
 }
 
 /// An IPv6 address without an embedded dotted part, as a number.
-pub fn read_v6(text: &[u8]) -> Option<u128>
+pub fn v6_address(text: &[u8]) -> Option<u128>
     ensures { result ≡ v6_address text.now }
 {
     match cut_double(text) {

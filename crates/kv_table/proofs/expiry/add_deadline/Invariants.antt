@@ -1,5 +1,5 @@
 use Rattle.std.proofs.Common.{◌≡◌, ◌++◌, take, drop}
-use Rattle.kv_table.specs.Expiry.{with_deadline}
+use Rattle.kv_table.specs.Deadlines.{with_deadline}
 use Rattle.kv_table.proofs.expiry.add_deadline.Given as goal
 
 -- none of the deadlines that were passed is later

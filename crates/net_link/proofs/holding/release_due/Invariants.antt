@@ -9,6 +9,6 @@ abbrev pub invariant-loop-message : goal.invariant-loop-message
 invariant-loop-message l = record {
   kept : l.kept.items ++ filter (λ h. not (is_due h)) (into_iter_items l.message-iterator)
       ≡ filter (λ h. not (is_due h)) (into_iter_items l.initial.message-iterator);
-  due : l.passed.items ++ map (λ h. h.msg) (filter is_due (into_iter_items l.message-iterator))
-      ≡ l.initial.passed.items ++ map (λ h. h.msg) (filter is_due (into_iter_items l.initial.message-iterator));
+  due : l.forwarded.items ++ map (λ h. h.msg) (filter is_due (into_iter_items l.message-iterator))
+      ≡ l.initial.forwarded.items ++ map (λ h. h.msg) (filter is_due (into_iter_items l.initial.message-iterator));
 }

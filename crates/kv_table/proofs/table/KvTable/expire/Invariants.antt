@@ -9,6 +9,6 @@ use Rattle.kv_table.proofs.table.KvTable.expire.Given as goal
 -- the journal so far, with an entry for each deadline that is left, is all of it, and has room for them
 abbrev pub invariant-loop-key : goal.invariant-loop-key
 invariant-loop-key l = record {
-  rest : l.self-inside.entries.items ++ map (λ d. Expired d.key l.now) (into_iter_items l.key-iterator) ≡ expire l.fn.self l.now;
+  rest : l.self-inside.entries.items ++ map (λ key. Expired key l.now) (map (λ d. d.key) (into_iter_items l.key-iterator)) ≡ expire l.fn.self l.now;
   room : length l.self-inside.entries.items + length (into_iter_items l.key-iterator) ≤ vec_capacity l.self-inside.entries;
 }
