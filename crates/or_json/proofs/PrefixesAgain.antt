@@ -1,5 +1,5 @@
 -- The text of a prefix has that prefix as its reading, and the text of a prefix record has that record.
-use Rattle.std.proofs.Common.{◌≡◌, ℕ, ◌-◌, ◌^◌, ◌<◌, ◌≤◌, Bool, true, false, cond, List, [], ◌∷◌, ◌++◌, Option, Some, None, refl, ap, ◌∙◌, append_assoc, arith, ltb-true, leb-true, le-leb, codes, decimal}
+use Rattle.std.proofs.Common.{◌≡◌, ℕ, ◌-◌, ◌^◌, ◌<◌, ◌≤◌, true, List, [], ◌∷◌, Some, refl, ap, ◌∙◌, arith, leb-true, le-leb, codes}
 use Rattle.std.specs.List.{list_all}
 use Rattle.std.specs.Option.{option_map, option_and_then}
 use Rattle.std.proofs.lemmas.Bool.{and_parts, and_from}
@@ -10,14 +10,9 @@ use Rattle.serde_json.specs.Read.{of_json, of_items, max_depth}
 use Rattle.serde_json.specs.Written.{outline, items_outline}
 use Rattle.serde_json.proofs.Numbers.{number_of-decimal}
 use Rattle.or_base.specs.Limits.{is_between, is_node_name}
-use Rattle.or_base.specs.Prefix.{address_bits}
-use Rattle.or_base.specs.Prefixes.{prefix_from}
-use Rattle.or_base.specs.declared.prefix.Prefix.{Prefix}
 use Rattle.or_base.specs.declared.database.PrefixEntry.{PrefixEntry}
 use Rattle.or_base.specs.declared.database.PrefixDb.{PrefixDb}
-use Rattle.or_base.proofs.Prefixes.{prefix_from_parts}
-use Rattle.or_prefix.specs.Reading.{Form, is_digit, decimal_value, pieces, has_colon, address_of, form_from, form_of, prefix_of}
-use Rattle.or_prefix.specs.Printing.{groups, octets, v6_text, v4_text, prefix_text}
+use Rattle.or_prefix.specs.Printing.{prefix_text}
 use Rattle.or_json.specs.Writing.{entry_data, entries_data, prefixes_data, prefixes_text}
 use Rattle.or_json.specs.Reading.{prefix_entry_read, prefix_entries_read, keep_entries_limits, prefix_db_of, prefixes_of, keeps_entry_limits, is_prefix_record}
 use Rattle.or_prefix.proofs.PrintedPrefixes.{prefix_again}

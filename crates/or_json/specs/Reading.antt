@@ -24,28 +24,28 @@ abbrev pub if_passes : {A : Type 0} → (A → Bool) → Option A → Option A
 if_passes test found = option_and_then (λ x. if test x then Some x else None) found
 
 -- the member with this name: a text that passes a test
-abbrev pub text_at : (List ℕ → Bool) → List ℕ → Data → Option (List ℕ)
-text_at test name d = if_passes test (option_and_then as_str (get name d))
+abbrev pub text_member : (List ℕ → Bool) → List ℕ → Data → Option (List ℕ)
+text_member test name d = if_passes test (option_and_then as_str (get name d))
 
 -- a number from the one to the other, without sign, fraction and exponent
-abbrev pub number_at : ℕ → ℕ → List ℕ → Data → Option ℕ
-number_at least most name d = if_passes (is_between least most) (option_and_then as_u64 (option_and_then as_number (get name d)))
+abbrev pub number_member : ℕ → ℕ → List ℕ → Data → Option ℕ
+number_member least most name d = if_passes (is_between least most) (option_and_then as_u64 (option_and_then as_number (get name d)))
 
 -- `true` or `false`
-abbrev pub flag_at : List ℕ → Data → Option Bool
-flag_at name d = option_and_then as_bool (get name d)
+abbrev pub flag_member : List ℕ → Data → Option Bool
+flag_member name d = option_and_then as_bool (get name d)
 
 -- the items of a list
-abbrev pub items_at : List ℕ → Data → Option Items
-items_at name d = option_and_then as_array (get name d)
+abbrev pub items_member : List ℕ → Data → Option Items
+items_member name d = option_and_then as_array (get name d)
 
 unfoldable pub adjacency_of : Data → Option Adjacency
 adjacency_of d = do
-  other ← text_at is_node_name (codes "other") d
-  own_if ← text_at is_interface_name (codes "if") d
-  other_if ← text_at is_interface_name (codes "other_if") d
-  metric ← number_at 1 most_metric (codes "metric") d
-  overload ← flag_at (codes "overload") d
+  other ← text_member is_node_name (codes "other") d
+  own_if ← text_member is_interface_name (codes "if") d
+  other_if ← text_member is_interface_name (codes "other_if") d
+  metric ← number_member 1 most_metric (codes "metric") d
+  overload ← flag_member (codes "overload") d
   Some (record { other = other; own_if = own_if; other_if = other_if; metric = metric; overload = overload })
 
 -- the readings of all items
@@ -57,13 +57,13 @@ adjacencies_of (item d ds) = do
   Some (adjacency ∷ adjacencies)
 
 -- one of them is over this interface
-abbrev pub has_interface : List Adjacency → List ℕ → Bool
-has_interface adjacencies interface = list_any (λ a. bytes_eq a.own_if interface) adjacencies
+abbrev pub has_own_interface : List Adjacency → List ℕ → Bool
+has_own_interface adjacencies interface = list_any (λ a. bytes_eq a.own_if interface) adjacencies
 
 -- no interface is named twice
 abbrev pub have_distinct_interfaces : List Adjacency → Bool
 have_distinct_interfaces [] = true
-have_distinct_interfaces (a ∷ adjacencies) = not (has_interface adjacencies a.own_if) && have_distinct_interfaces adjacencies
+have_distinct_interfaces (a ∷ adjacencies) = not (has_own_interface adjacencies a.own_if) && have_distinct_interfaces adjacencies
 
 -- no more adjacencies than the limit, over distinct interfaces
 abbrev pub keep_adjacencies_limits : List Adjacency → Bool
@@ -71,9 +71,9 @@ keep_adjacencies_limits adjacencies = nat_le (length adjacencies) most_adjacenci
 
 unfoldable pub adj_db_of : Data → Option AdjDb
 adj_db_of d = do
-  node ← text_at is_node_name (codes "node") d
-  overload ← flag_at (codes "overload") d
-  items ← items_at (codes "adjacencies") d
+  node ← text_member is_node_name (codes "node") d
+  overload ← flag_member (codes "overload") d
+  items ← items_member (codes "adjacencies") d
   adjacencies ← if_passes keep_adjacencies_limits (adjacencies_of items)
   Some (record { node = node; overload = overload; adjacencies = adjacencies })
 
@@ -86,15 +86,15 @@ abbrev pub adj_of : List ℕ → Option AdjDb
 adj_of text = option_and_then adj_db_of (json_in text)
 
 -- the prefix that the member with this name says
-abbrev pub prefix_at : List ℕ → Data → Option Prefix
-prefix_at name d = option_and_then prefix_of (option_and_then as_str (get name d))
+abbrev pub prefix_member : List ℕ → Data → Option Prefix
+prefix_member name d = option_and_then prefix_of (option_and_then as_str (get name d))
 
 unfoldable pub prefix_entry_read : Data → Option PrefixEntry
 prefix_entry_read d = do
-  prefix ← prefix_at (codes "prefix") d
-  path ← number_at 0 most_preference (codes "path") d
-  source ← number_at 0 most_preference (codes "source") d
-  distance ← number_at 0 most_preference (codes "distance") d
+  prefix ← prefix_member (codes "prefix") d
+  path ← number_member 0 most_preference (codes "path") d
+  source ← number_member 0 most_preference (codes "source") d
+  distance ← number_member 0 most_preference (codes "distance") d
   Some (record { prefix = prefix; path = path; source = source; distance = distance })
 
 abbrev pub prefix_entries_read : Items → Option (List PrefixEntry)
@@ -119,8 +119,8 @@ keep_entries_limits entries = nat_le (length entries) most_prefix_entries && hav
 
 unfoldable pub prefix_db_of : Data → Option PrefixDb
 prefix_db_of d = do
-  node ← text_at is_node_name (codes "node") d
-  items ← items_at (codes "entries") d
+  node ← text_member is_node_name (codes "node") d
+  items ← items_member (codes "entries") d
   entries ← if_passes keep_entries_limits (prefix_entries_read items)
   Some (record { node = node; entries = entries })
 

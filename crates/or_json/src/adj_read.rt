@@ -1,8 +1,10 @@
 ghost use Rattle.std.specs.Prelude.{◌≡◌, IfOk, option_map};
 ghost use Rattle.serde_json.specs.View.{view, items_view};
-ghost use Rattle.or_json.specs.Reading.{adjacency_of, adjacencies_of, has_interface, have_distinct_interfaces, keep_adjacencies_limits, adj_db_of, adj_of};
+ghost use Rattle.or_json.specs.Reading.{adjacency_of, adjacencies_of, has_own_interface, have_distinct_interfaces, keep_adjacencies_limits, adj_db_of, adj_of};
 
-use crate::object::{flag_at, interface_name_at, items_at, json_in, node_name_at, number_at};
+use crate::object::{
+    flag_member, interface_name_member, items_member, json_in, node_name_member, number_member,
+};
 use or_base::{AdjDb, Adjacency, MOST_ADJACENCIES, MOST_METRIC, NoMemory, Seq};
 use serde_json::Value;
 use std::alloc::Global;
@@ -12,19 +14,19 @@ use std::alloc::Global;
 fn adjacency_of(alloc: Global, value: &Value) -> Result<Option<Adjacency>, NoMemory>
     ensures { IfOk result (λ found. found ≡ adjacency_of (view value.now)) }
 {
-    let Some(other) = node_name_at(alloc, value, "other")? else {
+    let Some(other) = node_name_member(alloc, value, "other")? else {
         return Ok(None);
     };
-    let Some(own_if) = interface_name_at(alloc, value, "if")? else {
+    let Some(own_if) = interface_name_member(alloc, value, "if")? else {
         return Ok(None);
     };
-    let Some(other_if) = interface_name_at(alloc, value, "other_if")? else {
+    let Some(other_if) = interface_name_member(alloc, value, "other_if")? else {
         return Ok(None);
     };
-    let Some(metric) = number_at(1, MOST_METRIC, value, "metric") else {
+    let Some(metric) = number_member(1, MOST_METRIC, value, "metric") else {
         return Ok(None);
     };
-    let Some(overload) = flag_at(value, "overload") else {
+    let Some(overload) = flag_member(value, "overload") else {
         return Ok(None);
     };
     Ok(Some(Adjacency {
@@ -51,8 +53,8 @@ fn adjacencies_of(alloc: Global, values: &[Value]) -> Result<Option<Vec<Adjacenc
 }
 
 /// One of them is over this interface.
-fn has_interface(adjacencies: &[Adjacency], interface: &str) -> bool
-    ensures { result ≡ has_interface adjacencies.now interface.now }
+fn has_own_interface(adjacencies: &[Adjacency], interface: &str) -> bool
+    ensures { result ≡ has_own_interface adjacencies.now interface.now }
 {
     adjacencies.iter().any(|a| a.own_if.as_str() == interface)
 }
@@ -63,7 +65,7 @@ fn have_distinct_interfaces(adjacencies: &[Adjacency]) -> bool
 {
     let mut left = adjacencies;
     while let Some((first, rest)) = left.split_first() {
-        if has_interface(rest, first.own_if.as_str()) {
+        if has_own_interface(rest, first.own_if.as_str()) {
             return false;
         }
         left = rest;
@@ -83,13 +85,13 @@ fn keep_adjacencies_limits(adjacencies: &[Adjacency]) -> bool
 fn adj_db_of(alloc: Global, value: &Value) -> Result<Option<AdjDb>, NoMemory>
     ensures { IfOk result (λ found. found ≡ adj_db_of (view value.now)) }
 {
-    let Some(node) = node_name_at(alloc, value, "node")? else {
+    let Some(node) = node_name_member(alloc, value, "node")? else {
         return Ok(None);
     };
-    let Some(overload) = flag_at(value, "overload") else {
+    let Some(overload) = flag_member(value, "overload") else {
         return Ok(None);
     };
-    let Some(items) = items_at(value, "adjacencies") else {
+    let Some(items) = items_member(value, "adjacencies") else {
         return Ok(None);
     };
     let Some(adjacencies) = adjacencies_of(alloc, items)? else {

@@ -2,7 +2,7 @@ ghost use Rattle.std.specs.Prelude.{◌≡◌, IfOk, option_map, option_and_then
 ghost use Rattle.or_base.specs.Limits.{is_node_name, is_interface_name};
 ghost use Rattle.serde_json.specs.Find.{get, as_str};
 ghost use Rattle.serde_json.specs.View.{view, items_view};
-ghost use Rattle.or_json.specs.Reading.{text_at, number_at, flag_at, items_at, prefix_at, json_in};
+ghost use Rattle.or_json.specs.Reading.{text_member, number_member, flag_member, items_member, prefix_member, json_in};
 
 use or_base::{Name, NoMemory, Prefix, is_interface_name, is_node_name};
 use or_prefix::read_prefix;
@@ -22,17 +22,17 @@ pub fn json_in(alloc: Global, text: &[u8]) -> Result<Option<Value>, NoMemory>
 }
 
 /// The text of a member.
-fn text_at<'v>(object: &'v Value, name: &str) -> Option<&'v str>
+fn text_member<'v>(object: &'v Value, name: &str) -> Option<&'v str>
     ensures { option_map (λ text. text.now) result ≡ option_and_then as_str (get name.now (view object.now)) }
 {
     object.get(name).and_then(Value::as_str)
 }
 
 /// The name of a node, in a member.
-pub fn node_name_at(alloc: Global, object: &Value, name: &str) -> Result<Option<Name>, NoMemory>
-    ensures { IfOk result (λ found. found ≡ text_at is_node_name name.now (view object.now)) }
+pub fn node_name_member(alloc: Global, object: &Value, name: &str) -> Result<Option<Name>, NoMemory>
+    ensures { IfOk result (λ found. found ≡ text_member is_node_name name.now (view object.now)) }
 {
-    let Some(text) = text_at(object, name) else {
+    let Some(text) = text_member(object, name) else {
         return Ok(None);
     };
     if !is_node_name(text.as_bytes()) {
@@ -42,14 +42,14 @@ pub fn node_name_at(alloc: Global, object: &Value, name: &str) -> Result<Option<
 }
 
 /// The name of an interface, in a member.
-pub fn interface_name_at(
+pub fn interface_name_member(
     alloc: Global,
     object: &Value,
     name: &str,
 ) -> Result<Option<Name>, NoMemory>
-    ensures { IfOk result (λ found. found ≡ text_at is_interface_name name.now (view object.now)) }
+    ensures { IfOk result (λ found. found ≡ text_member is_interface_name name.now (view object.now)) }
 {
-    let Some(text) = text_at(object, name) else {
+    let Some(text) = text_member(object, name) else {
         return Ok(None);
     };
     if !is_interface_name(text.as_bytes()) {
@@ -59,8 +59,8 @@ pub fn interface_name_at(
 }
 
 /// The number of a member, from the one to the other.
-pub fn number_at(least: u32, most: u32, object: &Value, name: &str) -> Option<u32>
-    ensures { result ≡ number_at least most name.now (view object.now) }
+pub fn number_member(least: u32, most: u32, object: &Value, name: &str) -> Option<u32>
+    ensures { result ≡ number_member least most name.now (view object.now) }
 {
     let n = object.get(name)?.as_u64()?;
     if u64::from(least) <= n && n <= u64::from(most) {
@@ -71,25 +71,25 @@ pub fn number_at(least: u32, most: u32, object: &Value, name: &str) -> Option<u3
 }
 
 /// The `true` or `false` of a member.
-pub fn flag_at(object: &Value, name: &str) -> Option<bool>
-    ensures { result ≡ flag_at name.now (view object.now) }
+pub fn flag_member(object: &Value, name: &str) -> Option<bool>
+    ensures { result ≡ flag_member name.now (view object.now) }
 {
     object.get(name).and_then(Value::as_bool)
 }
 
 /// The items of a member.
-pub fn items_at<'v>(object: &'v Value, name: &str) -> Option<&'v [Value]>
-    ensures { option_map (λ values. items_view values.now) result ≡ items_at name.now (view object.now) }
+pub fn items_member<'v>(object: &'v Value, name: &str) -> Option<&'v [Value]>
+    ensures { option_map (λ values. items_view values.now) result ≡ items_member name.now (view object.now) }
 {
     let values = object.get(name)?.as_array()?;
     Some(values.as_slice())
 }
 
 /// The prefix that a member says.
-pub fn prefix_at(object: &Value, name: &str) -> Option<Prefix>
-    ensures { result ≡ prefix_at name.now (view object.now) }
+pub fn prefix_member(object: &Value, name: &str) -> Option<Prefix>
+    ensures { result ≡ prefix_member name.now (view object.now) }
 {
-    let text = text_at(object, name)?;
+    let text = text_member(object, name)?;
     match read_prefix(text.as_bytes()) {
         Ok(prefix) => Some(prefix),
         Err(_fault) => None,

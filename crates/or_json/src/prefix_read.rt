@@ -2,7 +2,7 @@ ghost use Rattle.std.specs.Prelude.{◌≡◌, IfOk, option_map};
 ghost use Rattle.serde_json.specs.View.{view, items_view};
 ghost use Rattle.or_json.specs.Reading.{prefix_entry_read, prefix_entries_read, has_prefix, have_distinct_prefixes, keep_entries_limits, prefix_db_of, prefixes_of};
 
-use crate::object::{items_at, json_in, node_name_at, number_at, prefix_at};
+use crate::object::{items_member, json_in, node_name_member, number_member, prefix_member};
 use or_base::{MOST_PREFERENCE, MOST_PREFIX_ENTRIES, NoMemory, Prefix, PrefixDb, PrefixEntry, Seq};
 use serde_json::Value;
 use std::alloc::Global;
@@ -12,10 +12,10 @@ use std::alloc::Global;
 fn prefix_entry_read(value: &Value) -> Option<PrefixEntry>
     ensures { result ≡ prefix_entry_read (view value.now) }
 {
-    let prefix = prefix_at(value, "prefix")?;
-    let path = number_at(0, MOST_PREFERENCE, value, "path")?;
-    let source = number_at(0, MOST_PREFERENCE, value, "source")?;
-    let distance = number_at(0, MOST_PREFERENCE, value, "distance")?;
+    let prefix = prefix_member(value, "prefix")?;
+    let path = number_member(0, MOST_PREFERENCE, value, "path")?;
+    let source = number_member(0, MOST_PREFERENCE, value, "source")?;
+    let distance = number_member(0, MOST_PREFERENCE, value, "distance")?;
     Some(PrefixEntry {
         prefix,
         path,
@@ -25,7 +25,10 @@ fn prefix_entry_read(value: &Value) -> Option<PrefixEntry>
 }
 
 /// The entries that values are.
-fn prefix_entries_read(alloc: Global, values: &[Value]) -> Result<Option<Vec<PrefixEntry>>, NoMemory>
+fn prefix_entries_read(
+    alloc: Global,
+    values: &[Value],
+) -> Result<Option<Vec<PrefixEntry>>, NoMemory>
     ensures { IfOk result (λ found. option_map (λ all. all.items) found ≡ prefix_entries_read (items_view values.now)) }
 {
     let mut read = Vec::new(alloc);
@@ -71,10 +74,10 @@ fn keep_entries_limits(entries: &[PrefixEntry]) -> bool
 fn prefix_db_of(alloc: Global, value: &Value) -> Result<Option<PrefixDb>, NoMemory>
     ensures { IfOk result (λ found. found ≡ prefix_db_of (view value.now)) }
 {
-    let Some(node) = node_name_at(alloc, value, "node")? else {
+    let Some(node) = node_name_member(alloc, value, "node")? else {
         return Ok(None);
     };
-    let Some(items) = items_at(value, "entries") else {
+    let Some(items) = items_member(value, "entries") else {
         return Ok(None);
     };
     let Some(entries) = prefix_entries_read(alloc, items)? else {

@@ -5,11 +5,11 @@ use Rattle.std.specs.Prelude.{not, nat_lt}
 use Rattle.std.proofs.lemmas.List.Quantifiers.{position-Some}
 use Rattle.std.proofs.lemmas.List.Sums.{prefix_len_passes}
 use Rattle.std.proofs.lemmas.Bool.{ltb-false, not-true}
-use Rattle.or_prefix.specs.Reading.{pieces, with_first}
+use Rattle.or_prefix.specs.Reading.{pieces, with_byte_before}
 
 -- the pieces of a text, by whether its first byte is a separator
 choice : ℕ → ℕ → List ℕ → Bool → List (List ℕ)
-choice separator b bytes test = cond test ([] ∷ pieces separator bytes) (with_first b (pieces separator bytes))
+choice separator b bytes test = cond test ([] ∷ pieces separator bytes) (with_byte_before b (pieces separator bytes))
 
 at_place : (separator : ℕ) (text : List ℕ) (place : ℕ) → place < length text → (get_or text place 0 == separator) ≡ true
     → ((k : ℕ) → k < place → (get_or text k 0 == separator) ≡ false)
@@ -19,14 +19,14 @@ at_place separator [] place within at before = absurd (omega arith)
 at_place separator (b ∷ bytes) zero within at before = ap (choice separator b bytes) at
 at_place separator (b ∷ bytes) (suc place) within at before =
     ap (choice separator b bytes) (before 0 (omega arith))
-    ∙ ap (with_first b) (at_place separator bytes place (omega arith) at (λ k h. before (suc k) (omega arith)))
+    ∙ ap (with_byte_before b) (at_place separator bytes place (omega arith) at (λ k h. before (suc k) (omega arith)))
 
 nowhere : (separator : ℕ) (text : List ℕ) → ((k : ℕ) → k < length text → (get_or text k 0 == separator) ≡ false) → pieces separator text ≡ text ∷ []
 unfolding choice
 nowhere separator [] other = refl
 nowhere separator (b ∷ bytes) other =
     ap (choice separator b bytes) (other 0 (omega arith))
-    ∙ ap (with_first b) (nowhere separator bytes (λ k h. other (suc k) (omega arith)))
+    ∙ ap (with_byte_before b) (nowhere separator bytes (λ k h. other (suc k) (omega arith)))
 
 -- the first piece ends at the first separator
 pub pieces_cut : (separator : ℕ) (text : List ℕ) (place : ℕ) → position (λ b. b == separator) text ≡ Some place

@@ -4,31 +4,31 @@ use Rattle.std.specs.List.{list_all, list_any}
 use Rattle.std.specs.Option.{option_map}
 use Rattle.std.proofs.lemmas.Bool.{and_left, and_right, eqb-true}
 use Rattle.std.proofs.lemmas.Bool.Decides.{nat_tests}
-use Rattle.or_prefix.specs.Reading.{Form, pieces, with_first, is_digit, is_short_decimal, decimal_value, is_octet, v4_address, has_colon, address_of, form_from}
+use Rattle.or_prefix.specs.Reading.{Form, pieces, with_byte_before, is_digit, is_short_decimal, decimal_value, is_octet, v4_address, has_colon, address_of, form_from}
 
 abbrev has : ℕ → List ℕ → Bool
 has separator text = list_any (λ b. b == separator) text
 
 one_piece_if : (separator b : ℕ) (text : List ℕ) (test : Bool) → (test || has separator text) ≡ false
     → (has separator text ≡ false → pieces separator text ≡ text ∷ [])
-    → cond test ([] ∷ pieces separator text) (with_first b (pieces separator text)) ≡ (b ∷ text) ∷ []
+    → cond test ([] ∷ pieces separator text) (with_byte_before b (pieces separator text)) ≡ (b ∷ text) ∷ []
 one_piece_if separator b text true none rest = cc
-one_piece_if separator b text false none rest = ap (with_first b) (rest none)
+one_piece_if separator b text false none rest = ap (with_byte_before b) (rest none)
 
 -- without a separator the text is the only piece
 one_piece : (separator : ℕ) (text : List ℕ) → has separator text ≡ false → pieces separator text ≡ text ∷ []
 one_piece separator [] none = refl
 one_piece separator (b ∷ text) none = one_piece_if separator b text (b == separator) none (one_piece separator text)
 
-length-with_first : (b : ℕ) (texts : List (List ℕ)) → 1 ≤ length texts → length (with_first b texts) ≡ length texts
+length-with_first : (b : ℕ) (texts : List (List ℕ)) → 1 ≤ length texts → length (with_byte_before b texts) ≡ length texts
 length-with_first b [] some = absurd (omega arith)
 length-with_first b (text ∷ texts) some = refl
 
-one_at_least : (b : ℕ) (texts : List (List ℕ)) → 1 ≤ length (with_first b texts)
+one_at_least : (b : ℕ) (texts : List (List ℕ)) → 1 ≤ length (with_byte_before b texts)
 one_at_least b [] = omega arith
 one_at_least b (text ∷ texts) = omega arith
 
-some_piece_if : (b : ℕ) (texts : List (List ℕ)) (test : Bool) → 1 ≤ length (cond test ([] ∷ texts) (with_first b texts))
+some_piece_if : (b : ℕ) (texts : List (List ℕ)) (test : Bool) → 1 ≤ length (cond test ([] ∷ texts) (with_byte_before b texts))
 some_piece_if b texts true = omega arith
 some_piece_if b texts false = one_at_least b texts
 
@@ -38,7 +38,7 @@ some_piece separator (b ∷ text) = some_piece_if b (pieces separator text) (b =
 
 two_pieces_if : (separator b : ℕ) (text : List ℕ) (test : Bool) → (test || has separator text) ≡ true
     → (has separator text ≡ true → 2 ≤ length (pieces separator text))
-    → 2 ≤ length (cond test ([] ∷ pieces separator text) (with_first b (pieces separator text)))
+    → 2 ≤ length (cond test ([] ∷ pieces separator text) (with_byte_before b (pieces separator text)))
 two_pieces_if separator b text true some rest = omega (arith, some_piece separator text)
 two_pieces_if separator b text false some rest =
     omega (arith, length-with_first b (pieces separator text) (some_piece separator text), rest some)

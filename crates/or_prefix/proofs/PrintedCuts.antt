@@ -2,7 +2,7 @@
 use Rattle.std.proofs.Common.{◌≡◌, ℕ, ◌==◌, Bool, true, false, ◌||◌, cond, List, [], ◌∷◌, ◌++◌, refl, ap, ◌∙◌, sym}
 use Rattle.std.specs.List.{list_all, list_any}
 use Rattle.std.proofs.lemmas.Bool.{and_parts, or_parts, eqb-true, eq-eqb}
-use Rattle.or_prefix.specs.Reading.{pieces, with_first}
+use Rattle.or_prefix.specs.Reading.{pieces, with_byte_before}
 use Rattle.or_prefix.specs.Printing.{join_texts}
 
 abbrev pub has : ℕ → List ℕ → Bool
@@ -38,14 +38,14 @@ passing test separator (b ∷ text) other all =
     neither (b == separator) _ (other_byte test separator b (b == separator) refl other parts.0) (passing test separator text other parts.1)
 
 piece_if : ℕ → ℕ → List ℕ → Bool → List (List ℕ)
-piece_if separator b text test = cond test ([] ∷ pieces separator text) (with_first b (pieces separator text))
+piece_if separator b text test = cond test ([] ∷ pieces separator text) (with_byte_before b (pieces separator text))
 
 pub pieces_whole : (separator : ℕ) (text : List ℕ) → has separator text ≡ false → pieces separator text ≡ text ∷ []
 unfolding piece_if
 pieces_whole separator [] free = refl
 pieces_whole separator (b ∷ text) free =
     let parts = or_parts _ _ free in
-    ap (piece_if separator b text) parts.0 ∙ ap (with_first b) (pieces_whole separator text parts.1)
+    ap (piece_if separator b text) parts.0 ∙ ap (with_byte_before b) (pieces_whole separator text parts.1)
 
 pub pieces_cut : (separator : ℕ) (text rest : List ℕ) → has separator text ≡ false
     → pieces separator (text ++ separator ∷ rest) ≡ text ∷ pieces separator rest
@@ -53,7 +53,7 @@ unfolding piece_if
 pieces_cut separator [] rest free = ap (piece_if separator separator rest) (eq-eqb separator separator refl)
 pieces_cut separator (b ∷ text) rest free =
     let parts = or_parts _ _ free in
-    ap (piece_if separator b (text ++ separator ∷ rest)) parts.0 ∙ ap (with_first b) (pieces_cut separator text rest parts.1)
+    ap (piece_if separator b (text ++ separator ∷ rest)) parts.0 ∙ ap (with_byte_before b) (pieces_cut separator text rest parts.1)
 
 module _ (separator : ℕ) (test : List ℕ → Bool) (free : (text : List ℕ) → test text ≡ true → has separator text ≡ false) where
   pub pieces_joined : (text : List ℕ) (texts : List (List ℕ)) → list_all test (text ∷ texts) ≡ true

@@ -16,14 +16,14 @@ pub record Form : Type 0 where
   pub len : ℕ
 
 -- a byte more in front of the first piece
-abbrev pub with_first : ℕ → List (List ℕ) → List (List ℕ)
-with_first b [] = (b ∷ []) ∷ []
-with_first b (piece ∷ pieces) = (b ∷ piece) ∷ pieces
+abbrev pub with_byte_before : ℕ → List (List ℕ) → List (List ℕ)
+with_byte_before b [] = (b ∷ []) ∷ []
+with_byte_before b (piece ∷ pieces) = (b ∷ piece) ∷ pieces
 
 -- the pieces between separators, one more than there are separators
 abbrev pub pieces : ℕ → List ℕ → List (List ℕ)
 pieces separator [] = [] ∷ []
-pieces separator (b ∷ bytes) = if b == separator then [] ∷ pieces separator bytes else with_first b (pieces separator bytes)
+pieces separator (b ∷ bytes) = if b == separator then [] ∷ pieces separator bytes else with_byte_before b (pieces separator bytes)
 
 abbrev pub is_digit : ℕ → Bool
 is_digit b = is_between 48 57 b
