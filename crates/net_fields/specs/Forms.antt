@@ -15,6 +15,7 @@ use Rattle.or_base.specs.declared.kind.Kind.TheVariants as kind
 use Rattle.or_prefix.specs.Reading.{prefix_of}
 use Rattle.net_fields.specs.declared.form.Form.{Form}
 use Rattle.net_fields.specs.declared.form.Form.TheVariants as form
+use Rattle.net_laboratory.specs.Limits.{most_acts}
 use Rattle.net_laboratory.specs.declared.show.Show.{Show}
 use Rattle.net_laboratory.specs.declared.show.Show.TheVariants as show
 
@@ -128,10 +129,10 @@ is_no_prefix form.Prefix d = is_text_with (λ text. is_none (prefix_of text)) d
 is_no_prefix _ d = false
 
 -- a text that names an act
-abbrev pub is_act : Data → Bool
-is_act d = is_text_with (λ text. is_some (act_of text)) d
+abbrev pub names_act : Data → Bool
+names_act d = is_text_with (λ text. is_some (act_of text)) d
 
--- a list that should be 1 to 256 known acts and isn't
+-- a list that should be a script of known acts and isn't
 unfoldable pub is_no_script : Form → Data → Bool
-is_no_script form.Acts d = option_map_or (λ ds. not (is_between 1 256 (items_len ds) && all_items is_act ds)) (as_array d) false
+is_no_script form.Acts d = option_map_or (λ ds. not (is_between 1 most_acts (items_len ds) && all_items names_act ds)) (as_array d) false
 is_no_script _ d = false

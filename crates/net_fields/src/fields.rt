@@ -1,14 +1,18 @@
 ghost use Rattle.std.specs.Prelude.{◌≡◌, map};
-ghost use Rattle.net_fields.specs.Fields.{entry_of, fields_of as fields_listed};
+ghost use Rattle.net_fields.specs.Fields.{field_entry, fields_of};
 
 use crate::field::Field;
 use crate::form::Form;
 use crate::word::Word;
+use net_laboratory::{
+    LAST_FAILING_CALL, MOST_AGGREGATED_ROUTES, MOST_FAILING_CALLS, MOST_LANE, MOST_LENGTH,
+    MOST_METRIC, MOST_MOMENT, MOST_PREFERENCE, MOST_ROUNDS,
+};
 
 /// What an object may say for a command, `do` first.
 #[tactic(auto, unfolding(crate::specs::Fields::fields_of))]
 pub fn fields_of(word: Word) -> &'static [Field]
-    ensures { map entry_of result.now ≡ fields_listed word }
+    ensures { map field_entry result.now ≡ fields_of word }
 {
     match word {
         Word::Lab => &LAB,
@@ -38,8 +42,6 @@ pub fn fields_of(word: Word) -> &'static [Field]
 
 // The ranges of numbers that several fields have.
 
-const MOST_METRIC: u64 = (1 << 31) - 1;
-
 const LIFETIME: Form = Form::Number {
     least: 1,
     most: 1 << 40,
@@ -52,7 +54,7 @@ const METRIC_RANGE: Form = Form::Number {
 
 const PREFERENCE: Form = Form::Number {
     least: 0,
-    most: MOST_METRIC,
+    most: MOST_PREFERENCE,
 };
 
 // The fields that several commands have.
@@ -134,9 +136,9 @@ static NODE: [Field; 3] = [
         name: "faults",
         is_needed: false,
         form: Form::Numbers {
-            count: 64,
+            count: MOST_FAILING_CALLS,
             least: 1,
-            most: 500_000,
+            most: LAST_FAILING_CALL,
         },
     },
 ];
@@ -182,7 +184,7 @@ static SETTLE: [Field; 3] = [
         is_needed: false,
         form: Form::Number {
             least: 1,
-            most: 100_000,
+            most: MOST_ROUNDS,
         },
     },
     Field {
@@ -199,7 +201,7 @@ static TICK: [Field; 2] = [
         is_needed: true,
         form: Form::Number {
             least: 0,
-            most: 1 << 40,
+            most: MOST_MOMENT,
         },
     },
 ];
@@ -310,7 +312,7 @@ static AGGREGATE: [Field; 4] = [
         is_needed: true,
         form: Form::Number {
             least: 1,
-            most: 1_000,
+            most: MOST_AGGREGATED_ROUTES,
         },
     },
 ];
@@ -324,7 +326,7 @@ static TURN: [Field; 3] = [
         is_needed: true,
         form: Form::Number {
             least: 0,
-            most: (1 << 32) - 1,
+            most: MOST_LANE,
         },
     },
     Field {
@@ -332,7 +334,7 @@ static TURN: [Field; 3] = [
         is_needed: true,
         form: Form::Number {
             least: 0,
-            most: u64::MAX,
+            most: MOST_LENGTH,
         },
     },
 ];

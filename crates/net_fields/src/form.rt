@@ -25,6 +25,6 @@ pub enum Form {
     Show,
     /// A prefix.
     Prefix,
-    /// A list of 1 to 256 acts.
+    /// A script: a list of at least one act, and of at most so many as a script has.
     Acts,
 }

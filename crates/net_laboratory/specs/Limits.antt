@@ -93,3 +93,13 @@ default_source = 100
 
 abbrev pub default_distance : ℕ
 default_distance = 0
+
+-- ---- turns
+
+-- the lane that a turn line names
+abbrev pub most_lane : ℕ
+most_lane = 2 ^ 32 - 1
+
+-- the length that it says
+abbrev pub most_length : ℕ
+most_length = 2 ^ 64 - 1

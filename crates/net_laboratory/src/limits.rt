@@ -54,6 +54,12 @@ pub const MOST_PREFERENCE: u64 = (1 << 31) - 1;
 /// How many routes an aggregate waits for at most; the least is 1.
 pub const MOST_AGGREGATED_ROUTES: u64 = 1_000;
 
+/// The greatest number of a lane.
+pub const MOST_LANE: u64 = (1 << 32) - 1;
+
+/// The greatest length that a turn line says.
+pub const MOST_LENGTH: u64 = u64::MAX;
+
 /// How many rounds a settle runs that names none.
 pub const DEFAULT_ROUNDS: u64 = 1_000;
 
