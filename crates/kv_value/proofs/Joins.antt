@@ -20,13 +20,13 @@ below_trans a b c true e f g = refl
 below_trans a b c false e f g = cc (not_below_trans b c a (below_not_above c b g) e)
 
 -- both groupings give the same value
-regrouped : (a b c : KvValue) (low high : Bool) → is_below a b ≡ low → is_below b c ≡ high
+same_in_both_groupings : (a b c : KvValue) (low high : Bool) → is_below a b ≡ low → is_below b c ≡ high
     → greater_of (cond low b a) c ≡ greater_of a (cond high c b)
-regrouped a b c true true e f =
+same_in_both_groupings a b c true true e f =
     ap (λ up. cond up c b) f ∙ sym (ap (λ up. cond up c a) (below_trans a b c (is_below a c) refl e f))
-regrouped a b c true false e f = ap (λ up. cond up c b) f ∙ sym (ap (λ up. cond up b a) e)
-regrouped a b c false true e f = refl
-regrouped a b c false false e f =
+same_in_both_groupings a b c true false e f = ap (λ up. cond up c b) f ∙ sym (ap (λ up. cond up b a) e)
+same_in_both_groupings a b c false true e f = refl
+same_in_both_groupings a b c false false e f =
     ap (λ up. cond up c a) (not_below_trans c b a f e) ∙ sym (ap (λ up. cond up b a) e)
 
 with_itself : (a : KvValue) (up : Bool) → IsSame (cond up a a) a
@@ -37,7 +37,7 @@ pub join_laws : JoinLaws
 join_laws = record {
   commutative = λ a b. both_ways a b (is_below a b) (is_below b a) refl refl;
   associative = λ a b c.
-      subst (λ v. IsSame (greater_of (greater_of a b) c) v) (regrouped a b c (is_below a b) (is_below b c) refl refl)
+      subst (λ v. IsSame (greater_of (greater_of a b) c) v) (same_in_both_groupings a b c (is_below a b) (is_below b c) refl refl)
       (tied_itself value_cmp_total (greater_of (greater_of a b) c));
   idempotent = λ a. with_itself a (is_below a a);
 }

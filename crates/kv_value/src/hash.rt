@@ -26,7 +26,7 @@ pub(crate) fn first_number(digest: &[u8; 32]) -> u64
 
 /// The hash of version, originator and value bytes, which tells values of one version and originator apart. It takes no
 /// memory.
-#[tactic(auto, unfolding(crate::specs::Hashing::framed, crate::specs::Hashing::hash_of))]
+#[tactic(auto, unfolding(crate::specs::Hashing::framing, crate::specs::Hashing::hash_of))]
 pub fn hash_of(v: &KvValue) -> u64
     ensures { result ≡ hash_of v.now }
 {

@@ -1,9 +1,8 @@
 //! The order of values, and joining by it.
 //!
-//! Every place where two values meet under one key, in a store, in a sync or in a test, decides by `compare` which
-//! of them stays. It compares the version, then the originator, then the value bytes, then the TTL version; the
-//! lifetime itself isn't compared, so values that compare as equal are the same but for their TTL. `joined` is the
-//! greater of two. The promise of this crate is `joining_has_laws`: joining is commutative, associative and
+//! Wherever there are two values for one key, in a store, in a sync or in a test, `value_cmp` decides which of them stays. It compares the version, then the originator, then the value bytes, then the TTL version; the
+//! lifetime itself isn't compared, so values that compare as equal are the same but for their TTL. `greater_of` gives
+//! the greater of two. The promise of this crate is `joining_has_laws`: joining is commutative, associative and
 //! idempotent up to such sameness, so values that are joined in any order and grouping, and any number of times
 //! each, give the same. The order is defined in or_base, the joined value and its laws in `specs/Joined.antt`.
 //! `sent_ttl` says with which lifetime a value is sent (`specs/Sending.antt`), and `hash_of` gives the hash by which a
@@ -25,7 +24,7 @@ use std::cmp::Ordering;
 /// Compares two values by version, originator, value bytes and TTL version, in this order. Names and bytes are
 /// compared byte by byte, and a proper prefix is less.
 #[tactic(auto, unfolding(or_base::specs::Order::value_cmp))]
-pub fn compare(a: &KvValue, b: &KvValue) -> Ordering
+pub fn value_cmp(a: &KvValue, b: &KvValue) -> Ordering
     ensures { result ≡ value_cmp a.now b.now }
 {
     a.version
@@ -36,10 +35,10 @@ pub fn compare(a: &KvValue, b: &KvValue) -> Ordering
 }
 
 /// The greater of two values; `a` where they compare as equal.
-pub fn joined<'a>(a: &'a KvValue, b: &'a KvValue) -> &'a KvValue
+pub fn greater_of<'a>(a: &'a KvValue, b: &'a KvValue) -> &'a KvValue
     ensures { result.now ≡ greater_of a.now b.now }
 {
-    if compare(a, b) == Ordering::Less {
+    if value_cmp(a, b) == Ordering::Less {
         b
     } else {
         a
@@ -51,6 +50,3 @@ pub fn joined<'a>(a: &'a KvValue, b: &'a KvValue) -> &'a KvValue
 pub fn joining_has_laws()
     ensures { JoinLaws }
 {}
-
-#[cfg(test)]
-mod tests;

@@ -4,9 +4,9 @@ ghost use Rattle.kv_value.specs.Sending.{sent_ttl};
 /// The lifetime with which a value is sent.
 #[derive(Clone, Copy, Debug, PartialEq, Eq)]
 pub enum Sent {
-    /// It lives for ever.
+    /// It has no end.
     Forever,
-    /// So many milliseconds.
+    /// So many milliseconds, at least 1.
     Left(u64),
     /// It isn't sent, since at most 1 millisecond is left.
     Withheld,

@@ -21,35 +21,35 @@ pub record Gives (key : List ℕ) (os : List Offer) (v : KvValue) : Type 0 where
 later : (key : List ℕ) (o : Offer) (os : List Offer) (v : KvValue) → Gives key os v → Gives key (o ∷ os) v
 later key o os v g = record { offer = g.offer; among = Contains-later o os g.offer g.among; counts = g.counts; value = g.value }
 
-given_if : (key : List ℕ) (o : Offer) (os : List Offer) (v : KvValue) (counts : Bool) → is_for key o ≡ counts
+offer_of_value_if : (key : List ℕ) (o : Offer) (os : List Offer) (v : KvValue) (counts : Bool) → is_for key o ≡ counts
     → (Contains (offered_values key os) v → Gives key os v)
     → Contains (cond counts (o.pair.value ∷ offered_values key os) (offered_values key os)) v → Gives key (o ∷ os) v
-given_if key o os v true e rest h =
+offer_of_value_if key o os v true e rest h =
     elim (Contains-cases o.pair.value (offered_values key os) v h) [
       | inl same ↦ record { offer = o; among = Contains-first o os; counts = e; value = same }
       | inr there ↦ later key o os v (rest there)
     ]
-given_if key o os v false e rest h = later key o os v (rest h)
+offer_of_value_if key o os v false e rest h = later key o os v (rest h)
 
 -- each offered value is given by an offer
-given : (key : List ℕ) (os : List Offer) (v : KvValue) → Contains (offered_values key os) v → Gives key os v
-given key [] v h = absurd (omega (arith, h.1))
-given key (o ∷ os) v h = given_if key o os v (is_for key o) refl (given key os v) h
+offer_of_value : (key : List ℕ) (os : List Offer) (v : KvValue) → Contains (offered_values key os) v → Gives key os v
+offer_of_value key [] v h = absurd (omega (arith, h.1))
+offer_of_value key (o ∷ os) v h = offer_of_value_if key o os v (is_for key o) refl (offer_of_value key os v) h
 
-kept_if : (key : List ℕ) (o p : Offer) (os : List Offer) (counts : Bool) → is_for key o ≡ counts → is_for key p ≡ true
+gives_value_if : (key : List ℕ) (o p : Offer) (os : List Offer) (counts : Bool) → is_for key o ≡ counts → is_for key p ≡ true
     → (Contains os p → Contains (offered_values key os) p.pair.value)
     → (o ≡ p) ⊎ Contains os p
     → Contains (cond counts (o.pair.value ∷ offered_values key os) (offered_values key os)) p.pair.value
-kept_if key o p os true e f rest (inl same) = (0, omega arith, ap (λ q. q.pair.value) same)
-kept_if key o p os true e f rest (inr there) = Contains-later o.pair.value (offered_values key os) p.pair.value (rest there)
-kept_if key o p os false e f rest (inl same) = cc (ap (is_for key) same)
-kept_if key o p os false e f rest (inr there) = rest there
+gives_value_if key o p os true e f rest (inl same) = (0, omega arith, ap (λ q. q.pair.value) same)
+gives_value_if key o p os true e f rest (inr there) = Contains-later o.pair.value (offered_values key os) p.pair.value (rest there)
+gives_value_if key o p os false e f rest (inl same) = cc (ap (is_for key) same)
+gives_value_if key o p os false e f rest (inr there) = rest there
 
 -- each offer gives its value
-kept : (key : List ℕ) (os : List Offer) (p : Offer) → is_for key p ≡ true → Contains os p → Contains (offered_values key os) p.pair.value
-kept key [] p f h = absurd (omega (arith, h.1))
-kept key (o ∷ os) p f h =
-    kept_if key o p os (is_for key o) refl f (kept key os p f) (Contains-cases o os p h)
+gives_value : (key : List ℕ) (os : List Offer) (p : Offer) → is_for key p ≡ true → Contains os p → Contains (offered_values key os) p.pair.value
+gives_value key [] p f h = absurd (omega (arith, h.1))
+gives_value key (o ∷ os) p f h =
+    gives_value_if key o p os (is_for key o) refl f (gives_value key os p f) (Contains-cases o os p h)
 
 -- the offered values of a list are among those of one that has its offers
 same_values : (key : List ℕ) (os qs : List Offer) → ((o : Offer) → Contains os o → Contains qs o) → (held : List KvValue) (v : KvValue)
@@ -58,8 +58,8 @@ same_values key os qs sub held v h =
     elim (Contains-append_cases held (offered_values key os) v h) [
       | inl here ↦ Contains-append_left held (offered_values key qs) v here
       | inr there ↦
-          let g = given key os v there in
-          let w = kept key qs g.offer g.counts (sub g.offer g.among) in
+          let g = offer_of_value key os v there in
+          let w = gives_value key qs g.offer g.counts (sub g.offer g.among) in
           Contains-append_right held (offered_values key qs) v (subst (λ x. Contains (offered_values key qs) x) g.value w)
     ]
 

@@ -1,8 +1,7 @@
 use Rattle.std.specs.Prelude.{ℕ, List, [], ◌∷◌, ◌++◌, Option, Some, None, Bool, true, if◌then◌else◌, ◌&&◌, reverse, filter, is_some}
 use Rattle.std.specs.Str.{bytes_eq}
 use Rattle.std.specs.Option.{option_map_or, option_map}
-use Rattle.std.specs.declared.cmp.Ordering.{Ordering}
-use Rattle.std.specs.declared.cmp.Ordering.TheVariants.{Less, Equal, Greater}
+use Rattle.std.specs.BTreeSet.{insert_key}
 use Rattle.or_base.specs.declared.value.KvValue.{KvValue}
 use Rattle.or_base.specs.declared.value.Pair.{Pair}
 use Rattle.or_base.specs.declared.origin.Origin.{Origin}
@@ -39,24 +38,17 @@ is_taken journal pair = is_valid_pair pair && exceeds pair.value (holds journal 
 abbrev pub offer : List JournalEntry → Pair → ℕ → Origin → List JournalEntry
 offer journal pair now origin = if is_taken journal pair then journal ++ Merged pair now origin ∷ [] else journal
 
--- a key's place among keys in byte order, by how it compares with the first: before it, there already, or later
-abbrev pub placed_by : Ordering → List ℕ → List ℕ → List (List ℕ) → List (List ℕ) → List (List ℕ)
-placed_by Less key first rest later = key ∷ first ∷ rest
-placed_by Equal key first rest later = first ∷ rest
-placed_by Greater key first rest later = first ∷ later
-
--- keys in byte order, with one key more
-abbrev pub with_key : List ℕ → List (List ℕ) → List (List ℕ)
-with_key key [] = key ∷ []
-with_key key (first ∷ rest) = placed_by (bytes_cmp key first) key first rest (with_key key rest)
-
 -- these keys and those that the entries merged, each once and in byte order
 abbrev pub with_merged_keys : List (List ℕ) → List JournalEntry → List (List ℕ)
 with_merged_keys keys [] = keys
-with_merged_keys keys (Merged pair at origin ∷ later) = with_merged_keys (with_key pair.key keys) later
+with_merged_keys keys (Merged pair at origin ∷ later) = with_merged_keys (insert_key bytes_cmp keys pair.key) later
 with_merged_keys keys (Expired name at ∷ later) = with_merged_keys keys later
 with_merged_keys keys (Cleared at ∷ later) = with_merged_keys keys later
 
+-- the keys that the entries merged, each once and in byte order
+abbrev pub merged_keys : List JournalEntry → List (List ℕ)
+merged_keys journal = with_merged_keys [] journal
+
 -- the keys under which something is held, each once and in byte order
 abbrev pub held_keys : List JournalEntry → List (List ℕ)
-held_keys journal = filter (λ key. is_some (holds journal key)) (with_merged_keys [] journal)
+held_keys journal = filter (λ key. is_some (holds journal key)) (merged_keys journal)

@@ -5,11 +5,11 @@ use crate::memory::{Copied, NoMemory};
 /// What a link does with a message.
 #[derive(Clone, Copy, Debug, PartialEq, Eq)]
 pub enum Act {
-    /// Puts it on.
+    /// Forwards it.
     Pass,
     /// Loses it.
     Drop,
-    /// Puts it on twice.
+    /// Forwards it twice.
     Twice,
     /// Holds it back until so many further messages (1 to 9) of its direction have come.
     Late(u8),

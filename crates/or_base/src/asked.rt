@@ -7,7 +7,7 @@ use crate::text::Key;
 use crate::value::KvValue;
 
 /// What a desk is asked.
-#[derive(Drop)]
+#[derive(Clone, Drop)]
 pub enum Asked {
     /// What is held under the key.
     Key(Key),
@@ -20,10 +20,7 @@ impl Asked {
     pub fn copied(&self) -> Result<Self, NoMemory>
         ensures { IfOk result (λ copy. copy ≡ self.now) }
     {
-        match self {
-            Asked::Key(key) => Ok(Asked::Key(key.copied()?)),
-            Asked::Prefix(prefix) => Ok(Asked::Prefix(*prefix)),
-        }
+        Ok(self.clone()?)
     }
 }
 
@@ -34,7 +31,7 @@ impl Copied for Asked {
 }
 
 /// What a desk answers.
-#[derive(Drop)]
+#[derive(Clone, Drop)]
 pub enum Told {
     /// The value held under the key.
     Value(KvValue),
@@ -51,12 +48,7 @@ impl Told {
     pub fn copied(&self) -> Result<Self, NoMemory>
         ensures { IfOk result (λ copy. copy ≡ self.now) }
     {
-        match self {
-            Told::Value(value) => Ok(Told::Value(value.copied()?)),
-            Told::Route(route) => Ok(Told::Route(route.copied()?)),
-            Told::Nothing => Ok(Told::Nothing),
-            Told::Behind(at) => Ok(Told::Behind(*at)),
-        }
+        Ok(self.clone()?)
     }
 }
 

@@ -6,12 +6,12 @@ use crate::seq::Seq;
 use crate::text::Name;
 
 /// A neighbour that a node reports, over one of its interfaces.
-#[derive(Drop)]
+#[derive(Clone, Drop)]
 pub struct Adjacency {
     pub other: Name,
     pub own_if: Name,
     pub other_if: Name,
-    /// 1 to 2^31 - 1.
+    /// 1 to `MOST_METRIC`.
     pub metric: u32,
     /// The link takes no traffic.
     pub overload: bool,
@@ -22,13 +22,7 @@ impl Adjacency {
     pub fn copied(&self) -> Result<Self, NoMemory>
         ensures { IfOk result (λ copy. copy ≡ self.now) }
     {
-        Ok(Adjacency {
-            other: self.other.copied()?,
-            own_if: self.own_if.copied()?,
-            other_if: self.other_if.copied()?,
-            metric: self.metric,
-            overload: self.overload,
-        })
+        Ok(self.clone()?)
     }
 }
 
@@ -39,12 +33,12 @@ impl Copied for Adjacency {
 }
 
 /// A node's link record.
-#[derive(Drop)]
+#[derive(Clone, Drop)]
 pub struct AdjDb {
     pub node: Name,
     /// The node carries no transit traffic.
     pub overload: bool,
-    /// At most 24.
+    /// At most `MOST_ADJACENCIES`.
     pub adjacencies: Seq<Adjacency>,
 }
 
@@ -53,11 +47,7 @@ impl AdjDb {
     pub fn copied(&self) -> Result<Self, NoMemory>
         ensures { IfOk result (λ copy. copy ≡ self.now) }
     {
-        Ok(AdjDb {
-            node: self.node.copied()?,
-            overload: self.overload,
-            adjacencies: self.adjacencies.copied()?,
-        })
+        Ok(self.clone()?)
     }
 }
 
@@ -67,7 +57,8 @@ impl Copied for AdjDb {
     }
 }
 
-/// A prefix that a node advertises, with what selection compares. The numbers are 0 to 2^31 - 1.
+/// A prefix that a node advertises, with what selection compares. The numbers are 0 to
+/// `MOST_PREFERENCE`.
 #[derive(Clone, Copy, Debug, PartialEq, Eq)]
 pub struct PrefixEntry {
     pub prefix: Prefix,
@@ -95,10 +86,10 @@ impl Copied for PrefixEntry {
 }
 
 /// A node's prefix record.
-#[derive(Drop)]
+#[derive(Clone, Drop)]
 pub struct PrefixDb {
     pub node: Name,
-    /// At most 32.
+    /// At most `MOST_PREFIX_ENTRIES`.
     pub entries: Seq<PrefixEntry>,
 }
 
@@ -107,10 +98,7 @@ impl PrefixDb {
     pub fn copied(&self) -> Result<Self, NoMemory>
         ensures { IfOk result (λ copy. copy ≡ self.now) }
     {
-        Ok(PrefixDb {
-            node: self.node.copied()?,
-            entries: self.entries.copied()?,
-        })
+        Ok(self.clone()?)
     }
 }
 

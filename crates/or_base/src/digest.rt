@@ -4,7 +4,7 @@ use crate::memory::{Copied, NoMemory};
 use crate::text::{Key, Name};
 
 /// What a digest tells of a held value.
-#[derive(Drop)]
+#[derive(Clone, Drop)]
 pub struct DigestRow {
     pub key: Key,
     pub version: u64,
@@ -19,13 +19,7 @@ impl DigestRow {
     pub fn copied(&self) -> Result<Self, NoMemory>
         ensures { IfOk result (λ copy. copy ≡ self.now) }
     {
-        Ok(DigestRow {
-            key: self.key.copied()?,
-            version: self.version,
-            originator: self.originator.copied()?,
-            hash: self.hash,
-            ttl_version: self.ttl_version,
-        })
+        Ok(self.clone()?)
     }
 }
 

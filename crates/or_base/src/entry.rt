@@ -6,7 +6,7 @@ use crate::text::Key;
 use crate::value::Pair;
 
 /// One change of a store. Moments are in milliseconds.
-#[derive(Drop)]
+#[derive(Clone, Drop)]
 pub enum JournalEntry {
     /// The pair was merged.
     Merged { pair: Pair, at: u64, origin: Origin },
@@ -21,18 +21,7 @@ impl JournalEntry {
     pub fn copied(&self) -> Result<Self, NoMemory>
         ensures { IfOk result (λ copy. copy ≡ self.now) }
     {
-        match self {
-            JournalEntry::Merged { pair, at, origin } => Ok(JournalEntry::Merged {
-                pair: pair.copied()?,
-                at: *at,
-                origin: *origin,
-            }),
-            JournalEntry::Expired { key, at } => Ok(JournalEntry::Expired {
-                key: key.copied()?,
-                at: *at,
-            }),
-            JournalEntry::Cleared { at } => Ok(JournalEntry::Cleared { at: *at }),
-        }
+        Ok(self.clone()?)
     }
 }
 

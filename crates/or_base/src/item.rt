@@ -1,5 +1,4 @@
 ghost use Rattle.std.specs.Prelude.{◌≡◌, IfOk};
-ghost use Rattle.or_base.specs.declared.item.Item.TheVariants.{Script, Persist, NeighbourUp, PeerUp, Net};
 
 use crate::act::Act;
 use crate::database::PrefixEntry;
@@ -13,7 +12,7 @@ use crate::text::{Bytes, Key, Name};
 use crate::value::Pair;
 
 /// What a lane carries. Links are named by number, below 2^31; moments are in milliseconds.
-#[derive(Drop)]
+#[derive(Clone, Drop)]
 pub enum Item {
     /// From the driver to a link: it carries from now on.
     Up,
@@ -131,98 +130,8 @@ impl Item {
     pub fn copied(&self) -> Result<Self, NoMemory>
         ensures { IfOk result (λ copy. copy ≡ self.now) }
     {
-        match self {
-            Item::Up => Ok(Item::Up),
-            Item::Down => Ok(Item::Down),
-            Item::Script { from, acts } => copied_script(from, acts),
-            Item::Tick { at } => Ok(Item::Tick { at: *at }),
-            Item::Set { pair } => Ok(Item::Set {
-                pair: pair.copied()?,
-            }),
-            Item::Sync { link } => Ok(Item::Sync { link: *link }),
-            Item::Restart => Ok(Item::Restart),
-            Item::Persist { key, value, ttl } => copied_persist(key, value, *ttl),
-            Item::Unset { key } => Ok(Item::Unset { key: key.copied()? }),
-            Item::Drain { on } => Ok(Item::Drain { on: *on }),
-            &Item::LinkDrain { link, on } => Ok(Item::LinkDrain { link, on }),
-            &Item::Metric { link, metric } => Ok(Item::Metric { link, metric }),
-            Item::Advertise { entry } => Ok(Item::Advertise { entry: *entry }),
-            Item::Withdraw { prefix } => Ok(Item::Withdraw { prefix: *prefix }),
-            &Item::Aggregate { prefix, min } => Ok(Item::Aggregate { prefix, min }),
-            Item::Get { key } => Ok(Item::Get { key: key.copied()? }),
-            Item::Ask { prefix } => Ok(Item::Ask { prefix: *prefix }),
-            Item::LinkUp { link } => Ok(Item::LinkUp { link: *link }),
-            Item::LinkDown { link } => Ok(Item::LinkDown { link: *link }),
-            Item::NeighbourUp {
-                link,
-                peer,
-                peer_if,
-            } => copied_neighbour(*link, peer, peer_if),
-            Item::NeighbourDown { link } => Ok(Item::NeighbourDown { link: *link }),
-            Item::PeerUp { link, peer } => copied_peer(*link, peer),
-            Item::PeerDown { link } => Ok(Item::PeerDown { link: *link }),
-            Item::Net { link, from, msg } => copied_net(*link, from, msg),
-            Item::Entry { entry } => Ok(Item::Entry {
-                entry: entry.copied()?,
-            }),
-            Item::Routes { delta } => Ok(Item::Routes {
-                delta: delta.copied()?,
-            }),
-        }
+        Ok(self.clone()?)
     }
-}
-
-/// A Script of these.
-fn copied_script(from: &Name, acts: &Seq<Act>) -> Result<Item, NoMemory>
-    ensures { IfOk result (λ copy. copy ≡ Script from.now acts.now) }
-{
-    Ok(Item::Script {
-        from: from.copied()?,
-        acts: acts.copied()?,
-    })
-}
-
-/// A Persist of these.
-fn copied_persist(key: &Key, value: &Bytes, ttl: Option<u64>) -> Result<Item, NoMemory>
-    ensures { IfOk result (λ copy. copy ≡ Persist key.now value.now ttl) }
-{
-    Ok(Item::Persist {
-        key: key.copied()?,
-        value: value.copied()?,
-        ttl,
-    })
-}
-
-/// A NeighbourUp of these.
-fn copied_neighbour(link: u32, peer: &Name, peer_if: &Name) -> Result<Item, NoMemory>
-    ensures { IfOk result (λ copy. copy ≡ NeighbourUp link peer.now peer_if.now) }
-{
-    Ok(Item::NeighbourUp {
-        link,
-        peer: peer.copied()?,
-        peer_if: peer_if.copied()?,
-    })
-}
-
-/// A PeerUp of these.
-fn copied_peer(link: u32, peer: &Name) -> Result<Item, NoMemory>
-    ensures { IfOk result (λ copy. copy ≡ PeerUp link peer.now) }
-{
-    Ok(Item::PeerUp {
-        link,
-        peer: peer.copied()?,
-    })
-}
-
-/// A Net of these.
-fn copied_net(link: u32, from: &Name, msg: &Msg) -> Result<Item, NoMemory>
-    ensures { IfOk result (λ copy. copy ≡ Net link from.now msg.now) }
-{
-    Ok(Item::Net {
-        link,
-        from: from.copied()?,
-        msg: msg.copied()?,
-    })
 }
 
 impl Copied for Item {
@@ -232,7 +141,7 @@ impl Copied for Item {
 }
 
 /// An item with the stamp of the turn that sent it.
-#[derive(Drop)]
+#[derive(Clone, Drop)]
 pub struct Stamped {
     pub stamp: u64,
     pub item: Item,
@@ -243,10 +152,7 @@ impl Stamped {
     pub fn copied(&self) -> Result<Self, NoMemory>
         ensures { IfOk result (λ copy. copy ≡ self.now) }
     {
-        Ok(Stamped {
-            stamp: self.stamp,
-            item: self.item.copied()?,
-        })
+        Ok(self.clone()?)
     }
 }
 
@@ -258,7 +164,7 @@ impl Copied for Stamped {
 
 /// A turn that was done: the lane whose reader took the item, the length that a desk found there (0 for every
 /// other reader), the turn's stamp, and the item.
-#[derive(Drop)]
+#[derive(Clone, Drop)]
 pub struct TurnDone {
     pub lane: u32,
     pub at: u64,
@@ -271,12 +177,7 @@ impl TurnDone {
     pub fn copied(&self) -> Result<Self, NoMemory>
         ensures { IfOk result (λ copy. copy ≡ self.now) }
     {
-        Ok(TurnDone {
-            lane: self.lane,
-            at: self.at,
-            stamp: self.stamp,
-            item: self.item.copied()?,
-        })
+        Ok(self.clone()?)
     }
 }
 

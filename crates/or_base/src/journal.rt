@@ -1,6 +1,8 @@
-ghost use Rattle.std.specs.Prelude.{◌≡◌, [], IfOk, OnOk};
+ghost use Rattle.std.specs.Prelude.{◌≡◌, IfOk, OnOk};
+ghost use Rattle.std.specs.BTreeSet.{insert_key};
 ghost use Rattle.std.specs.Option.{option_map};
-ghost use Rattle.or_base.specs.Journal.{holds, with_key, with_merged_keys, held_keys};
+ghost use Rattle.or_base.specs.Order.{bytes_cmp};
+ghost use Rattle.or_base.specs.Journal.{holds, merged_keys, held_keys};
 
 use crate::entry::JournalEntry;
 use crate::held::Held;
@@ -12,7 +14,7 @@ use std::cmp::Ordering;
 /// What a store with this journal holds under a key: the first entry from the end that is Cleared or names the
 /// key decides. It takes no memory.
 #[tactic(auto, using(crate::proofs::Offers::holds_push))]
-pub fn held_under<'a>(journal: &'a [JournalEntry], key: &Key) -> Option<Held<'a>>
+pub fn holds<'a>(journal: &'a [JournalEntry], key: &Key) -> Option<Held<'a>>
     ensures { option_map (λ held. (held.value.now, held.merged_at)) result ≡ holds journal.now key.now }
 {
     let mut left = journal;
@@ -40,8 +42,8 @@ pub fn held_under<'a>(journal: &'a [JournalEntry], key: &Key) -> Option<Held<'a>
 
 /// Adds a key to keys in byte order, unless it is there.
 #[tactic(auto, using(crate::proofs::Keys::with_key_steps))]
-pub fn add_key(keys: &mut Vec<Key>, key: &Key) -> Result<(), NoMemory>
-    ensures { OnOk result (keys.new.items ≡ with_key key.now keys.old.items) }
+pub fn insert_key(keys: &mut Vec<Key>, key: &Key) -> Result<(), NoMemory>
+    ensures { OnOk result (keys.new.items ≡ insert_key bytes_cmp keys.old.items key.now) }
 {
     for place in 0..keys.len() {
         let first = &keys[place];
@@ -60,12 +62,12 @@ pub fn add_key(keys: &mut Vec<Key>, key: &Key) -> Result<(), NoMemory>
 
 /// The keys that the journal merged, each once and in byte order.
 fn merged_keys(alloc: Global, journal: &[JournalEntry]) -> Result<Vec<Key>, NoMemory>
-    ensures { IfOk result (λ keys. keys.items ≡ with_merged_keys [] journal.now) }
+    ensures { IfOk result (λ keys. keys.items ≡ merged_keys journal.now) }
 {
     let mut keys = Vec::new(alloc);
     for entry in journal {
         if let JournalEntry::Merged { pair, .. } = entry {
-            add_key(&mut keys, &pair.key)?;
+            insert_key(&mut keys, &pair.key)?;
         }
     }
     Ok(keys)
@@ -77,7 +79,7 @@ pub fn held_keys(alloc: Global, journal: &[JournalEntry]) -> Result<Vec<Key>, No
 {
     let mut held = Vec::new(alloc);
     for key in merged_keys(alloc, journal)? {
-        if held_under(journal, &key).is_some() {
+        if holds(journal, &key).is_some() {
             held.push(key)?;
         }
     }

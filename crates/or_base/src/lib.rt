@@ -3,15 +3,16 @@
 //! A store is its journal: the list of what was merged, what expired and when the store was cleared. What it
 //! holds under a key is read from the journal's end (`holds`), and an offered pair is merged exactly where it is
 //! within the limits and exceeds what is held (`offer`). Both are defined in `specs/Journal.antt`, the order of
-//! values in `specs/Order.antt`, the limits in `specs/Limits.antt`. The promise that every later theorem on stores
-//! stands on is `offers_hold_greatest`: after any list of offers a store holds the greatest value offered, so any
-//! order of the same offers leaves the same values.
+//! values in `specs/Order.antt`, the limits in `specs/Limits.antt`. What is proved of stores above rests on
+//! `offers_hold_greatest`: after any list of offers a store holds the greatest value offered, so any order of the
+//! same offers leaves the same values.
 //!
-//! The files: `memory` (the one free error, and copies that may meet it), `text` and `seq` (newtypes that contracts
-//! see as lists), `prefix` (a prefix keeps no bit beyond its length), `value`, `entry`, `held`, `message`, `act`,
-//! `database`, `digest`, `route`, `session`, `asked`, `item` (plain data that contracts see as it is), `journal` (the plain bodies of
-//! the journal's definitions), `limits`, and the streams: `stream` (the traits), `memory_stream` (fakes that fail on
-//! request), `real_stream` (the trusted edge). But for a prefix no type here keeps a limit: `limits` tests them.
+//! The files: `memory` (the error that memory ran out, and copying), `text` and `seq` (newtypes that contracts see
+//! as lists), `prefix` (a prefix has no bit past its length; the order of prefixes), `value`, `entry`, `held`, `message`, `act`,
+//! `database`, `digest`, `route`, `session`, `asked`, `item` (plain data that contracts see as it is), `journal` (what
+//! computes the journal's definitions), `limits`, and the streams: `stream` (the traits), `memory_stream` (fakes that
+//! fail on request), `real_stream` (sources and sinks over std's readers and writers). But for a prefix no type here
+//! keeps a limit: `limits` tests them. `specs/ByLink.antt` and `specs/Counting.antt` have words that several crates use.
 #![tactic(auto)]
 
 ghost use Rattle.or_base.specs.Law.{HoldsGreatest, LeavesSameInAnyOrder, HeldKeysAreThese};
@@ -46,10 +47,13 @@ pub use digest::DigestRow;
 pub use entry::JournalEntry;
 pub use held::Held;
 pub use item::{Item, Stamped, TurnDone};
-pub use journal::{add_key, held_keys, held_under};
+pub use journal::{held_keys, holds, insert_key};
 pub use kind::Kind;
 pub use limits::{
-    has_key_bytes, has_name_bytes, is_interface_name, is_key, is_node_name, is_valid_pair,
+    MOST_ADJACENCIES, MOST_INTERFACE_NAME_BYTES, MOST_KEY_BYTES, MOST_LIFETIME, MOST_METRIC,
+    MOST_NODE_NAME_BYTES, MOST_PREFERENCE, MOST_PREFIX_ENTRIES, MOST_TTL_VERSION, MOST_VALUE_BYTES,
+    MOST_VERSION, has_key_bytes, has_name_bytes, is_interface_name, is_key, is_node_name,
+    is_valid_pair,
 };
 pub use memory::{Copied, NoMemory};
 pub use memory_stream::{MemSink, MemSource, SINK_BYTES};

@@ -1,14 +1,47 @@
 ghost use Rattle.std.specs.Prelude.{◌≡◌};
 ghost use Rattle.std.specs.List.{list_all};
-ghost use Rattle.or_base.specs.Limits.{is_between, is_name_byte, is_node_name, is_interface_name, is_key, is_valid_value, is_valid_pair};
+ghost use Rattle.or_base.specs.Limits.{is_name_byte, is_key_byte, is_node_name, is_interface_name, is_key, is_valid_value, is_valid_pair};
 
 use crate::value::{KvValue, Pair};
+
+/// The greatest length of a node's name, in bytes.
+pub const MOST_NODE_NAME_BYTES: usize = 20;
+
+/// The greatest length of an interface's name, in bytes.
+pub const MOST_INTERFACE_NAME_BYTES: usize = 24;
+
+/// The greatest length of a key, in bytes.
+pub const MOST_KEY_BYTES: usize = 128;
+
+/// How many bytes a value has at most.
+pub const MOST_VALUE_BYTES: usize = 4096;
+
+/// The greatest version of a value.
+pub const MOST_VERSION: u64 = 1 << 62;
+
+/// The greatest TTL version of a value.
+pub const MOST_TTL_VERSION: u64 = 1 << 62;
+
+/// The longest time to live, in milliseconds.
+pub const MOST_LIFETIME: u64 = 1 << 40;
+
+/// How many adjacencies a link record has at most.
+pub const MOST_ADJACENCIES: usize = 24;
+
+/// The greatest metric of an adjacency.
+pub const MOST_METRIC: u32 = (1 << 31) - 1;
+
+/// How many entries a prefix record has at most.
+pub const MOST_PREFIX_ENTRIES: usize = 32;
+
+/// The greatest path preference, source preference and distance of a prefix entry.
+pub const MOST_PREFERENCE: u32 = (1 << 31) - 1;
 
 /// The byte may stand in a name: a to z, 0 to 9, `-`, `_` and `.`.
 fn is_name_byte(b: u8) -> bool
     ensures { result ≡ is_name_byte b }
 {
-    (97 <= b && b <= 122) || (48 <= b && b <= 57) || b == 45 || b == 95 || b == 46
+    (b'a' <= b && b <= b'z') || (b'0' <= b && b <= b'9') || b == b'-' || b == b'_' || b == b'.'
 }
 
 /// Each byte may stand in a name.
@@ -18,35 +51,42 @@ pub fn has_name_bytes(text: &[u8]) -> bool
     text.iter().all(|&b| is_name_byte(b))
 }
 
-/// Each byte is from 0x21 to 0x7e.
-pub fn has_key_bytes(text: &[u8]) -> bool
-    ensures { result ≡ list_all (is_between 0x21 0x7e) text.now }
+/// The byte may stand in a key: printable ASCII other than the space.
+fn is_key_byte(b: u8) -> bool
+    ensures { result ≡ is_key_byte b }
 {
-    text.iter().all(|&b| 0x21 <= b && b <= 0x7e)
+    b'!' <= b && b <= b'~'
 }
 
-/// The text is a node's name: 1 to 20 characters of a to z, 0 to 9, `-`, `_` and `.`.
+/// Each byte may stand in a key.
+pub fn has_key_bytes(text: &[u8]) -> bool
+    ensures { result ≡ list_all is_key_byte text.now }
+{
+    text.iter().all(|&b| is_key_byte(b))
+}
+
+/// The text is a node's name: 1 to `MOST_NODE_NAME_BYTES` characters of a to z, 0 to 9, `-`, `_` and `.`.
 #[tactic(auto, unfolding(crate::specs::Limits::is_node_name))]
 pub fn is_node_name(name: &[u8]) -> bool
     ensures { result ≡ is_node_name name.now }
 {
-    1 <= name.len() && name.len() <= 20 && has_name_bytes(name)
+    1 <= name.len() && name.len() <= MOST_NODE_NAME_BYTES && has_name_bytes(name)
 }
 
-/// The text is an interface's name: 1 to 24 such characters.
+/// The text is an interface's name: 1 to `MOST_INTERFACE_NAME_BYTES` such characters.
 #[tactic(auto, unfolding(crate::specs::Limits::is_interface_name))]
 pub fn is_interface_name(name: &[u8]) -> bool
     ensures { result ≡ is_interface_name name.now }
 {
-    1 <= name.len() && name.len() <= 24 && has_name_bytes(name)
+    1 <= name.len() && name.len() <= MOST_INTERFACE_NAME_BYTES && has_name_bytes(name)
 }
 
-/// The text is a key: 1 to 128 bytes from 0x21 to 0x7e.
+/// The text is a key: 1 to `MOST_KEY_BYTES` bytes of printable ASCII other than the space.
 #[tactic(auto, unfolding(crate::specs::Limits::is_key))]
 pub fn is_key(key: &[u8]) -> bool
     ensures { result ≡ is_key key.now }
 {
-    1 <= key.len() && key.len() <= 128 && has_key_bytes(key)
+    1 <= key.len() && key.len() <= MOST_KEY_BYTES && has_key_bytes(key)
 }
 
 /// Each part of the value is within its limit.
@@ -55,11 +95,11 @@ fn is_valid_value(v: &KvValue) -> bool
     ensures { result ≡ is_valid_value v.now }
 {
     is_node_name(v.originator.as_str().as_bytes())
-        && v.value.as_slice().len() <= 4096
+        && v.value.as_slice().len() <= MOST_VALUE_BYTES
         && 1 <= v.version
-        && v.version <= 1 << 62
-        && v.ttl.map_or(true, |ttl| 1 <= ttl && ttl <= 1 << 40)
-        && v.ttl_version <= 1 << 62
+        && v.version <= MOST_VERSION
+        && v.ttl.map_or(true, |ttl| 1 <= ttl && ttl <= MOST_LIFETIME)
+        && v.ttl_version <= MOST_TTL_VERSION
 }
 
 /// The key and the value are within their limits.

@@ -1,5 +1,5 @@
 ghost use Rattle.std.specs.Prelude.{◌≡◌, ◌+◌, ◌-◌, ◌<◌, ◌≤◌, ◌^◌, ◌++◌, ◌||◌, [], Some, length, drop, take, min, nat_lt, is_err, IfOk, OnOk, OnErr, vec_capacity};
-ghost use Rattle.or_base.specs.Memory.{is_listed, next_call};
+ghost use Rattle.or_base.specs.Memory.{is_listed, next_call, sink_bytes};
 ghost use Rattle.or_base.specs.Stream.{ReadsFront, WritesFront};
 
 use crate::memory::NoMemory;
@@ -74,7 +74,7 @@ impl Source for MemSource {
     }
 }
 
-/// How many bytes a sink in memory takes.
+/// How many bytes a sink in memory takes, 32 MiB.
 pub const SINK_BYTES: usize = 33_554_432;
 
 /// A sink into memory, some of whose writes fail. A write past `SINK_BYTES` fails too. Calls are numbered from 1.
@@ -86,8 +86,8 @@ pub struct MemSink {
     calls: u64,
     faults: u64,
     ghost takes: { 0 < per_call },
-    ghost in_range: { length bytes.items ≤ 33554432 },
-    ghost room: { 33554432 ≤ vec_capacity bytes },
+    ghost in_range: { length bytes.items ≤ sink_bytes },
+    ghost room: { sink_bytes ≤ vec_capacity bytes },
 }
 
 impl MemSink {
@@ -133,7 +133,7 @@ impl Sink for MemSink {
         ensures ok { OnOk result (self.new.faults ≡ self.old.faults) }
         ensures err { OnErr result (self.new.bytes.items ≡ self.old.bytes.items) }
         ensures cause { OnErr result (self.new.faults ≡ self.old.faults + 1) }
-        ensures fails { is_err result ≡ (is_listed (next_call self.old.calls) self.old.failing.items || nat_lt (33554432 - length self.old.bytes.items) (min (length buf.now) self.old.per_call)) }
+        ensures fails { is_err result ≡ (is_listed (next_call self.old.calls) self.old.failing.items || nat_lt (sink_bytes - length self.old.bytes.items) (min (length buf.now) self.old.per_call)) }
         ensures count { IfOk result (λ count. count ≡ min (length buf.now) self.old.per_call) }
         ensures calls { self.new.calls ≡ next_call self.old.calls }
         ensures same_failing { self.new.failing ≡ self.old.failing }

@@ -2,10 +2,11 @@ ghost use Rattle.std.specs.Prelude.{◌≡◌, ◌%◌, ◌^◌, ◌==◌, IsTru
 ghost use Rattle.or_base.specs.Prefix.{is_prefix};
 
 use crate::memory::{Copied, NoMemory};
+use std::cmp::Ordering;
 
-/// An IP prefix, ordered by (v6, bits, len). Its length is at most 32 or 128; `bits` is the address as a number, below
+/// An IP prefix. Prefixes are ordered by family, IPv4 first, then by address, then by length. Its length is at most 32 or 128; `bits` is the address as a number, below
 /// 2^32 for IPv4; no bit past the length is set (RFC 4291 for IPv6).
-#[derive(Clone, Copy, Debug, PartialEq, Eq, PartialOrd, Ord)]
+#[derive(Clone, Copy, Debug, PartialEq, Eq)]
 pub struct Prefix {
     pub v6: bool,
     pub bits: u128,
@@ -33,7 +34,7 @@ impl Prefix {
     }
 
     /// The two are the same.
-    pub fn is_same(&self, other: &Prefix) -> bool
+    pub fn is_same_prefix(&self, other: &Prefix) -> bool
         ensures { result ≡ is_same_prefix self.now other.now }
     {
         self == other
@@ -44,6 +45,43 @@ impl Prefix {
         ensures { result ≡ Ok self.now }
     {
         Ok(*self)
+    }
+}
+
+impl PartialOrd for Prefix {
+    ghost use Rattle.std.proofs.Common.{rules};
+    ghost use Rattle.std.specs.Cmp.{partial_order_from_own_ties};
+    ghost use Rattle.std.specs.Cmp.Rules.{comparing};
+    ghost use Rattle.std.specs.Ordering.{as_partial_cmp};
+    ghost use Rattle.or_base.specs.Prefixes.{prefix_cmp};
+
+    ghost partial_cmp = { as_partial_cmp prefix_cmp };
+
+    ghost laws = { partial_order_from_own_ties (Prim.search (comparing, rules)) (Prim.search (comparing, rules)) };
+
+    fn partial_cmp(&self, other: &Prefix) -> Option<Ordering> {
+        Some(self.cmp(other))
+    }
+}
+
+impl Ord for Prefix {
+    ghost use Rattle.std.proofs.Common.{rules};
+    ghost use Rattle.std.specs.Cmp.Rules.{comparing};
+    ghost use Rattle.or_base.specs.Prefixes.{prefix_cmp};
+
+    ghost cmp = { prefix_cmp };
+
+    ghost total = { Prim.search (comparing, rules) };
+
+    ghost matches_partial_cmp = { Prim.search (comparing, rules) };
+
+    ghost matches_eq = { Prim.search (comparing, rules) };
+
+    fn cmp(&self, other: &Prefix) -> Ordering {
+        self.v6
+            .cmp(&other.v6)
+            .then_with(|| self.bits.cmp(&other.bits))
+            .then_with(|| self.len.cmp(&other.len))
     }
 }
 

@@ -6,7 +6,7 @@ use crate::seq::Seq;
 use crate::text::Name;
 
 /// A route to a prefix over all least-cost paths.
-#[derive(Drop)]
+#[derive(Clone, Drop)]
 pub struct Route {
     pub prefix: Prefix,
     /// The sum of the metrics of a least-cost path.
@@ -20,11 +20,7 @@ impl Route {
     pub fn copied(&self) -> Result<Self, NoMemory>
         ensures { IfOk result (λ copy. copy ≡ self.now) }
     {
-        Ok(Route {
-            prefix: self.prefix,
-            cost: self.cost,
-            hops: self.hops.copied()?,
-        })
+        Ok(self.clone()?)
     }
 }
 
@@ -36,7 +32,7 @@ impl Copied for Route {
 
 /// What changed in a table of routes: the prefixes whose routes go, and then the routes that are new or changed, both in
 /// prefix order.
-#[derive(Drop)]
+#[derive(Clone, Drop)]
 pub struct Delta {
     pub del: Seq<Prefix>,
     pub set: Seq<Route>,
@@ -47,10 +43,7 @@ impl Delta {
     pub fn copied(&self) -> Result<Self, NoMemory>
         ensures { IfOk result (λ copy. copy ≡ self.now) }
     {
-        Ok(Delta {
-            del: self.del.copied()?,
-            set: self.set.copied()?,
-        })
+        Ok(self.clone()?)
     }
 }
 

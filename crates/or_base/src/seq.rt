@@ -1,7 +1,7 @@
 ghost use Rattle.std.specs.Prelude.{◌≡◌, IfOk};
 
 use crate::memory::{Copied, NoMemory};
-use std::alloc::Global;
+use std::alloc::{AllocError, Global};
 use std::marker::Model;
 
 /// A vector that contracts see as the list of its items.
@@ -43,8 +43,18 @@ impl<T> Seq<T> {
 
 impl<T: Copied> Copied for Seq<T> {
     fn copied(&self) -> Result<Self, NoMemory> {
-        let items = copied_items(*self.items.allocator(), self.items.as_slice())?;
-        Ok(Seq { items })
+        Ok(self.clone()?)
+    }
+}
+
+impl<T: Copied> Clone for Seq<T> {
+    ghost is_clone = { λ x y. y ≡ x };
+
+    fn clone(&self) -> Result<Self, AllocError> {
+        match copied_items(*self.items.allocator(), self.items.as_slice()) {
+            Ok(items) => Ok(Seq { items }),
+            Err(_) => Err(AllocError),
+        }
     }
 }
 

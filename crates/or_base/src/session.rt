@@ -4,7 +4,7 @@ use crate::memory::{Copied, NoMemory};
 use crate::text::Name;
 
 /// A full sync that was finished, as its starter tells it.
-#[derive(Drop)]
+#[derive(Clone, Drop)]
 pub struct SyncDone {
     pub link: u32,
     /// The node at the other end.
@@ -15,7 +15,7 @@ pub struct SyncDone {
     pub a0: u64,
     /// The length of the peer's journal when its reply was made.
     pub b0: u64,
-    /// How many pairs were withheld for want of lifetime.
+    /// How many pairs were withheld because too little of their lifetime was left.
     pub withheld: u64,
 }
 
@@ -24,14 +24,7 @@ impl SyncDone {
     pub fn copied(&self) -> Result<Self, NoMemory>
         ensures { IfOk result (λ copy. copy ≡ self.now) }
     {
-        Ok(SyncDone {
-            link: self.link,
-            peer: self.peer.copied()?,
-            session: self.session,
-            a0: self.a0,
-            b0: self.b0,
-            withheld: self.withheld,
-        })
+        Ok(self.clone()?)
     }
 }
 

@@ -2,6 +2,7 @@ ghost use Rattle.std.specs.Prelude.{◌≡◌, IfOk, string_bytes};
 ghost use Rattle.or_base.specs.Names.{is_among};
 
 use crate::memory::{Copied, NoMemory};
+use std::alloc::AllocError;
 use std::marker::Model;
 
 /// The name of a node or of an interface: text that contracts see as its bytes.
@@ -37,6 +38,14 @@ impl Name {
     pub fn copied(&self) -> Result<Self, NoMemory>
         ensures { IfOk result (λ copy. copy ≡ self.now) }
     {
+        Ok(self.clone()?)
+    }
+}
+
+impl Clone for Name {
+    ghost is_clone = { λ x y. y ≡ x };
+
+    fn clone(&self) -> Result<Self, AllocError> {
         Ok(Name {
             text: self.text.clone()?,
         })
@@ -90,6 +99,14 @@ impl Key {
     pub fn copied(&self) -> Result<Self, NoMemory>
         ensures { IfOk result (λ copy. copy ≡ self.now) }
     {
+        Ok(self.clone()?)
+    }
+}
+
+impl Clone for Key {
+    ghost is_clone = { λ x y. y ≡ x };
+
+    fn clone(&self) -> Result<Self, AllocError> {
         Ok(Key {
             text: self.text.clone()?,
         })
@@ -142,6 +159,14 @@ impl Bytes {
     pub fn copied(&self) -> Result<Self, NoMemory>
         ensures { IfOk result (λ copy. copy ≡ self.now) }
     {
+        Ok(self.clone()?)
+    }
+}
+
+impl Clone for Bytes {
+    ghost is_clone = { λ x y. y ≡ x };
+
+    fn clone(&self) -> Result<Self, AllocError> {
         Ok(Bytes {
             bytes: self.bytes.clone()?,
         })
@@ -151,15 +176,5 @@ impl Bytes {
 impl Copied for Bytes {
     fn copied(&self) -> Result<Self, NoMemory> {
         Bytes::copied(self)
-    }
-}
-
-/// An equal name, where there is one.
-pub(crate) fn copied_name(name: &Option<Name>) -> Result<Option<Name>, NoMemory>
-    ensures { IfOk result (λ copy. copy ≡ name.now) }
-{
-    match name {
-        Some(name) => Ok(Some(name.copied()?)),
-        None => Ok(None),
     }
 }

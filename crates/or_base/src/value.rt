@@ -4,17 +4,17 @@ use crate::memory::{Copied, NoMemory};
 use crate::text::{Bytes, Key, Name};
 
 /// A value of a store, with what orders it and how long it lives.
-#[derive(Drop)]
+#[derive(Clone, Drop)]
 pub struct KvValue {
-    /// From 1 to 2^62. The greater version wins.
+    /// From 1 to `MOST_VERSION`. The greater version wins.
     pub version: u64,
     /// The node that made the value.
     pub originator: Name,
-    /// 0 to 4,096 bytes.
+    /// At most `MOST_VALUE_BYTES` bytes.
     pub value: Bytes,
-    /// The time to live in milliseconds, from 1 to 2^40; None means for ever.
+    /// The time to live in milliseconds, from 1 to `MOST_LIFETIME`; None means for ever.
     pub ttl: Option<u64>,
-    /// From 0 to 2^62. It rises with each refresh of the lifetime.
+    /// From 0 to `MOST_TTL_VERSION`. It rises with each refresh of the lifetime.
     pub ttl_version: u64,
 }
 
@@ -23,13 +23,7 @@ impl KvValue {
     pub fn copied(&self) -> Result<Self, NoMemory>
         ensures { IfOk result (λ copy. copy ≡ self.now) }
     {
-        Ok(KvValue {
-            version: self.version,
-            originator: self.originator.copied()?,
-            value: self.value.copied()?,
-            ttl: self.ttl,
-            ttl_version: self.ttl_version,
-        })
+        Ok(self.clone()?)
     }
 }
 
@@ -40,7 +34,7 @@ impl Copied for KvValue {
 }
 
 /// A key with its value.
-#[derive(Drop)]
+#[derive(Clone, Drop)]
 pub struct Pair {
     pub key: Key,
     pub value: KvValue,
@@ -51,10 +45,7 @@ impl Pair {
     pub fn copied(&self) -> Result<Self, NoMemory>
         ensures { IfOk result (λ copy. copy ≡ self.now) }
     {
-        Ok(Pair {
-            key: self.key.copied()?,
-            value: self.value.copied()?,
-        })
+        Ok(self.clone()?)
     }
 }
 

@@ -1,7 +1,7 @@
 use Rattle.std.proofs.Common.{◌≡◌, ℕ, List, [], ◌++◌, length, take, ap, ◌∙◌}
 use Rattle.std.specs.Int.{w32, w64, from_be_bytes, to_be_bytes}
 use Rattle.sha2.specs.Sha256.{sha256}
-use Rattle.kv_value.specs.Hashing.{framed, hash_of}
+use Rattle.kv_value.specs.Hashing.{framing, hash_of}
 use Rattle.kv_value.proofs.hash.hash_of.Goals as goal
 
 -- pieces that are equal one by one make equal messages
@@ -9,7 +9,7 @@ same_pieces : {a b c d e aa bb cc dd ee : List ℕ} → a ≡ aa → b ≡ bb �
 same_pieces p q r s t = cc
 
 pub returns : goal.returns
-unfolding framed hash_of
+unfolding framing hash_of
 returns c =
     let holds1 = c.update.ensures [] c.new-hasher.ensures in
     let holds2 = c.update-2.ensures _ holds1 in

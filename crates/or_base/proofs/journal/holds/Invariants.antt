@@ -1,6 +1,6 @@
 use Rattle.std.proofs.Common.{◌≡◌, length}
 use Rattle.or_base.specs.Journal.{holds}
-use Rattle.or_base.proofs.journal.held_under.Given as goal
+use Rattle.or_base.proofs.journal.holds.Given as goal
 
 -- what is left holds what all of it holds
 abbrev pub invariant-loop-entry : goal.invariant-loop-entry

@@ -1,11 +1,10 @@
-use crate::hash::first_number;
-use crate::hash_of;
-use or_base::{Bytes, KvValue, Name};
+use kv_value::{Sent, greater_of, hash_of, sent_ttl};
+use or_base::{Bytes, KvValue, MOST_VALUE_BYTES, MOST_VERSION, Name};
 use sha2::{Digest, Sha256};
 use std::alloc::{AllocError, Global};
 use std::test::Fail;
 
-/// A value that lives for ever.
+/// A value with no TTL.
 fn value(
     alloc: Global,
     version: u64,
@@ -46,6 +45,13 @@ const MESSAGES: [(&[u8], u64); 4] = [
     (&[0xd3], 0x2896_9cdf_a74a_12c8),
 ];
 
+/// The first 8 bytes of a digest, as a number with the high byte first.
+fn first_number(digest: &[u8; 32]) -> u64 {
+    u64::from_be_bytes([
+        digest[0], digest[1], digest[2], digest[3], digest[4], digest[5], digest[6], digest[7],
+    ])
+}
+
 #[test]
 fn public_messages_have_their_stated_hash(rt: HostRuntime) -> Result<(), Fail> {
     for (message, want) in MESSAGES {
@@ -85,11 +91,29 @@ fn lifetimes_are_not_hashed(rt: HostRuntime) -> Result<(), Fail> {
 fn the_longest_value_is_hashed(rt: HostRuntime) -> Result<(), Fail> {
     let alloc = rt.alloc();
     let mut bytes = Vec::new(alloc);
-    for i in 0..4096usize {
+    for i in 0..MOST_VALUE_BYTES {
         bytes.push((i % 256) as u8)?;
     }
-    let v = value(alloc, 1 << 62, "r1n1.lab-a_b-c.d-e.f", bytes.as_slice())?;
+    let v = value(alloc, MOST_VERSION, "r1n1.lab-a_b-c.d-e.f", bytes.as_slice())?;
     // From `hashlib.sha256` over the 4,132 bytes of the framing.
     assert_eq!(rt; hash_of(&v), 0x437c_32f4_bfa4_1fb1);
+    Ok(())
+}
+
+#[test]
+fn the_greater_value_is_the_later_version(rt: HostRuntime) -> Result<(), Fail> {
+    let alloc = rt.alloc();
+    let first = value(alloc, 1, "b", &[9])?;
+    let second = value(alloc, 2, "a", &[])?;
+    assert_eq!(rt; greater_of(&first, &second).version, 2);
+    assert_eq!(rt; greater_of(&second, &first).version, 2);
+    Ok(())
+}
+
+#[test]
+fn each_sending_takes_a_millisecond(rt: HostRuntime) -> Result<(), Fail> {
+    assert!(rt; sent_ttl(None, 3, 9) == Sent::Forever);
+    assert!(rt; sent_ttl(Some(10), 3, 3) == Sent::Left(9));
+    assert!(rt; sent_ttl(Some(10), 3, 12) == Sent::Withheld);
     Ok(())
 }
