@@ -1,6 +1,7 @@
 -- The fields of each command, with what each takes.
 use Rattle.std.specs.Prelude.{ℕ, ◌^◌, List, [], ◌∷◌, codes, Bool, true, false}
-use Rattle.net_laboratory.specs.Limits.{most_metric, most_preference, most_failing_calls, last_failing_call, most_rounds, most_moment, most_aggregated_routes, most_lane, most_length}
+use Rattle.or_base.specs.Limits.{most_node_name_bytes, most_interface_name_bytes, most_version, most_ttl_version, most_lifetime, most_metric, most_preference}
+use Rattle.net_laboratory.specs.Limits.{most_failing_calls, last_failing_call, most_rounds, most_moment, most_aggregated_routes, most_lane, most_length}
 use Rattle.net_fields.specs.declared.word.Word.{Word}
 use Rattle.net_fields.specs.declared.word.Word.TheVariants.{Lab, Node, Link, Settle, Tick, Set, Own, Disown, Sync, Restart, Up, Down, Script, Get, Drain, LinkDrain, Metric, Advertise, Withdraw, Aggregate, Ask, Turn}
 use Rattle.net_fields.specs.declared.form.Form.{Form}
@@ -33,22 +34,22 @@ preference = form.Number 0 most_preference
 
 -- milliseconds
 abbrev pub lifetime : Form
-lifetime = form.Number 1 (2 ^ 40)
+lifetime = form.Number 1 most_lifetime
 
 -- ---- the fields of each command beside `do`
 
 abbrev pub own_fields : Word → List Entry
 own_fields Lab = needed_field (codes "kind") form.Kind ∷ optional_field (codes "ttl") lifetime ∷ []
-own_fields Node = needed_field (codes "name") (form.Name 20) ∷ optional_field (codes "faults") (form.Numbers most_failing_calls 1 last_failing_call) ∷ []
+own_fields Node = needed_field (codes "name") (form.Name most_node_name_bytes) ∷ optional_field (codes "faults") (form.Numbers most_failing_calls 1 last_failing_call) ∷ []
 own_fields Link =
-    needed_field (codes "a") form.Node ∷ needed_field (codes "b") form.Node ∷ optional_field (codes "aif") (form.Name 24) ∷ optional_field (codes "bif") (form.Name 24)
+    needed_field (codes "a") form.Node ∷ needed_field (codes "b") form.Node ∷ optional_field (codes "aif") (form.Name most_interface_name_bytes) ∷ optional_field (codes "bif") (form.Name most_interface_name_bytes)
     ∷ optional_field (codes "am") metric ∷ optional_field (codes "bm") metric ∷ []
 own_fields Settle = optional_field (codes "rounds") (form.Number 1 most_rounds) ∷ optional_field (codes "show") form.Show ∷ []
 own_fields Tick = needed_field (codes "to") (form.Number 0 most_moment) ∷ []
 own_fields Set =
-    needed_field (codes "node") form.Node ∷ needed_field (codes "key") form.Key ∷ needed_field (codes "version") (form.Number 1 (2 ^ 62))
-    ∷ optional_field (codes "hex") form.Hex ∷ optional_field (codes "text") form.Text ∷ optional_field (codes "originator") (form.Name 20)
-    ∷ optional_field (codes "ttl") lifetime ∷ optional_field (codes "ttlv") (form.Number 0 (2 ^ 62)) ∷ []
+    needed_field (codes "node") form.Node ∷ needed_field (codes "key") form.Key ∷ needed_field (codes "version") (form.Number 1 most_version)
+    ∷ optional_field (codes "hex") form.Hex ∷ optional_field (codes "text") form.Text ∷ optional_field (codes "originator") (form.Name most_node_name_bytes)
+    ∷ optional_field (codes "ttl") lifetime ∷ optional_field (codes "ttlv") (form.Number 0 most_ttl_version) ∷ []
 own_fields Own =
     needed_field (codes "node") form.Node ∷ needed_field (codes "key") form.Key ∷ optional_field (codes "hex") form.Hex ∷ optional_field (codes "text") form.Text
     ∷ optional_field (codes "ttl") lifetime ∷ []

@@ -7,7 +7,7 @@ use Rattle.hex.specs.Hex.{decode_of}
 use Rattle.hex.specs.declared.error.FromHexError.{FromHexError}
 use Rattle.serde_json.specs.Data.{Data, Items, no_items, item}
 use Rattle.serde_json.specs.Find.{as_bool, as_str, as_number, as_u64, as_array}
-use Rattle.or_base.specs.Limits.{is_between, is_name_byte}
+use Rattle.or_base.specs.Limits.{most_key_bytes, most_value_bytes, is_between, is_name_byte, is_key_byte}
 use Rattle.or_base.specs.declared.act.Act.{Act}
 use Rattle.or_base.specs.declared.act.Act.TheVariants as act
 use Rattle.or_base.specs.declared.kind.Kind.{Kind}
@@ -27,7 +27,7 @@ is_name text = nat_le 1 (length text) && list_all is_name_byte text
 
 -- a key, but for its length
 abbrev pub is_key_text : List ℕ → Bool
-is_key_text text = nat_le 1 (length text) && list_all (is_between 0x21 0x7e) text
+is_key_text text = nat_le 1 (length text) && list_all is_key_byte text
 
 -- a hexadecimal digit, in either case
 abbrev pub is_hex_byte : ℕ → Bool
@@ -115,12 +115,12 @@ fits form.Show d = is_text_with (λ text. is_some (show_of text)) d
 fits form.Prefix d = is_some (as_str d)
 fits form.Acts d = is_some (as_array d)
 
--- the value is a text that is too long for the form: a name past its limit, a key past 128 bytes, a value past 4,096
+-- the value is a text that is too long for the form
 unfoldable pub is_long : Form → Data → Bool
 is_long (form.Name longest) d = is_text_with (λ text. nat_lt longest (length text)) d
-is_long form.Key d = is_text_with (λ text. nat_lt 128 (length text)) d
-is_long form.Hex d = is_text_with (λ text. nat_lt 4096 (length text / 2)) d
-is_long form.Text d = is_text_with (λ text. nat_lt 4096 (length text)) d
+is_long form.Key d = is_text_with (λ text. nat_lt most_key_bytes (length text)) d
+is_long form.Hex d = is_text_with (λ text. nat_lt most_value_bytes (length text / 2)) d
+is_long form.Text d = is_text_with (λ text. nat_lt most_value_bytes (length text)) d
 is_long _ d = false
 
 -- a text that should be a prefix and isn't

@@ -5,8 +5,12 @@ use crate::field::Field;
 use crate::form::Form;
 use crate::word::Word;
 use net_laboratory::{
-    LAST_FAILING_CALL, MOST_AGGREGATED_ROUTES, MOST_FAILING_CALLS, MOST_LANE, MOST_LENGTH,
-    MOST_METRIC, MOST_MOMENT, MOST_PREFERENCE, MOST_ROUNDS,
+    LAST_FAILING_CALL, MOST_AGGREGATED_ROUTES, MOST_FAILING_CALLS, MOST_LANE, MOST_LENGTH, MOST_MOMENT,
+    MOST_ROUNDS,
+};
+use or_base::{
+    MOST_INTERFACE_NAME_BYTES, MOST_LIFETIME, MOST_METRIC, MOST_NODE_NAME_BYTES, MOST_PREFERENCE,
+    MOST_TTL_VERSION, MOST_VERSION,
 };
 
 /// What an object may say for a command, `do` first.
@@ -44,17 +48,17 @@ pub fn fields_of(word: Word) -> &'static [Field]
 
 const LIFETIME: Form = Form::Number {
     least: 1,
-    most: 1 << 40,
+    most: MOST_LIFETIME,
 };
 
 const METRIC_RANGE: Form = Form::Number {
     least: 1,
-    most: MOST_METRIC,
+    most: MOST_METRIC as u64,
 };
 
 const PREFERENCE: Form = Form::Number {
     least: 0,
-    most: MOST_PREFERENCE,
+    most: MOST_PREFERENCE as u64,
 };
 
 // The fields that several commands have.
@@ -130,7 +134,9 @@ static NODE: [Field; 3] = [
     Field {
         name: "name",
         is_needed: true,
-        form: Form::Name { longest: 20 },
+        form: Form::Name {
+            longest: MOST_NODE_NAME_BYTES as u64,
+        },
     },
     Field {
         name: "faults",
@@ -158,12 +164,16 @@ static LINK: [Field; 7] = [
     Field {
         name: "aif",
         is_needed: false,
-        form: Form::Name { longest: 24 },
+        form: Form::Name {
+            longest: MOST_INTERFACE_NAME_BYTES as u64,
+        },
     },
     Field {
         name: "bif",
         is_needed: false,
-        form: Form::Name { longest: 24 },
+        form: Form::Name {
+            longest: MOST_INTERFACE_NAME_BYTES as u64,
+        },
     },
     Field {
         name: "am",
@@ -215,7 +225,7 @@ static SET: [Field; 9] = [
         is_needed: true,
         form: Form::Number {
             least: 1,
-            most: 1 << 62,
+            most: MOST_VERSION,
         },
     },
     HEX,
@@ -223,7 +233,9 @@ static SET: [Field; 9] = [
     Field {
         name: "originator",
         is_needed: false,
-        form: Form::Name { longest: 20 },
+        form: Form::Name {
+            longest: MOST_NODE_NAME_BYTES as u64,
+        },
     },
     TTL,
     Field {
@@ -231,7 +243,7 @@ static SET: [Field; 9] = [
         is_needed: false,
         form: Form::Number {
             least: 0,
-            most: 1 << 62,
+            most: MOST_TTL_VERSION,
         },
     },
 ];

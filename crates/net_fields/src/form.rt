@@ -9,7 +9,7 @@ pub enum Form {
     Node,
     /// The number of a declared link.
     Link,
-    /// A key: 1 to 128 bytes from 0x21 to 0x7e.
+    /// A key.
     Key,
     /// Bytes as an even number of hexadecimal digits of either case.
     Hex,

@@ -5,7 +5,7 @@ ghost use Rattle.net_fields.specs.Forms.{is_name, is_key_text, is_hex, is_hex_by
 
 use crate::form::Form;
 use net_laboratory::{MOST_ACTS, Show};
-use or_base::{Act, Kind, has_key_bytes, has_name_bytes};
+use or_base::{Act, Kind, MOST_KEY_BYTES, MOST_VALUE_BYTES, has_key_bytes, has_name_bytes};
 use or_prefix::read_prefix;
 use serde_json::Value;
 
@@ -148,9 +148,15 @@ pub(crate) fn is_long(form: Form, value: &Value) -> bool
         Form::Name { longest } => value
             .as_str()
             .is_some_and(|text| longest < text.len() as u64),
-        Form::Key => value.as_str().is_some_and(|text| 128 < text.len()),
-        Form::Hex => value.as_str().is_some_and(|text| 4096 < text.len() / 2),
-        Form::Text => value.as_str().is_some_and(|text| 4096 < text.len()),
+        Form::Key => value
+            .as_str()
+            .is_some_and(|text| MOST_KEY_BYTES < text.len()),
+        Form::Hex => value
+            .as_str()
+            .is_some_and(|text| MOST_VALUE_BYTES < text.len() / 2),
+        Form::Text => value
+            .as_str()
+            .is_some_and(|text| MOST_VALUE_BYTES < text.len()),
         _ => false,
     }
 }
