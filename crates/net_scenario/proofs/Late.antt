@@ -13,7 +13,7 @@ use Rattle.net_laboratory.specs.Limits.{most_scenario_bytes, most_line_bytes}
 use Rattle.net_scenario.specs.declared.fault.FaultKind.{FaultKind}
 use Rattle.net_scenario.specs.declared.fault.FaultKind.TheVariants as kind
 use Rattle.net_scenario.specs.Faults.{Line, is_late, is_too_long, line_of}
-use Rattle.net_scenario.specs.Language.{with_first, lines_in, placed, lines_of, is_blank, fault_at, after_line, line_step, and_then, lines_read, is_all_blank, whole, scenario_of}
+use Rattle.net_scenario.specs.Language.{with_first, lines_in, lines_from, lines_of, is_blank, fault_at, after_line, line_step, and_then, after_lines, is_all_blank, whole, scenario_of}
 use Rattle.net_scenario.proofs.AdmittedRows.{read_line}
 
 -- ---- a line that ends too late has a fault
@@ -70,12 +70,12 @@ first_read (Err fault) next seen e = absurd cc
 
 -- the bytes end where the last line does, in time
 lines_in_limit : (seen : Seen) (turns : Bool) (total number at : ℕ) (texts : List (List ℕ)) (last : Seen) → at ≤ most_scenario_bytes → total ≤ at + size_of texts
-    → lines_read seen turns (placed total number at texts) ≡ Ok last → total ≤ most_scenario_bytes
+    → after_lines seen turns (lines_from total number at texts) ≡ Ok last → total ≤ most_scenario_bytes
 lines_in_limit seen turns total number at [] last begun all e = omega (arith, begun, all)
 lines_in_limit seen turns total number at (text ∷ texts) last begun all e =
     let line : Line = record { text = text; number = number; end = min (at + length text + 1) total } in
     let next = at + length text + 1 in
-    let r = first_read (line_step seen turns line) (λ between. lines_read between turns (placed total (number + 1) next texts)) last e in
+    let r = first_read (line_step seen turns line) (λ between. after_lines between turns (lines_from total (number + 1) next texts)) last e in
     let within : min next total ≤ most_scenario_bytes = not_above (min next total) (in_time seen turns line r.0 r.1) in
     let less = λ (more : next < total). lines_in_limit r.0 turns total (number + 1) next texts last (omega (arith, within, more)) (omega (arith, all)) r.2 in
     further (nat_lt next total) refl within less
@@ -93,10 +93,10 @@ pub whole_in_limit : (bytes : List ℕ) (turns : Bool) (lab : Laboratory) → sc
 unfolding scenario_of
 whole_in_limit bytes turns lab e = at_bytes (is_all_blank bytes) e
   where
-    at_lines : (read : Result Seen ScenarioFault) → lines_read nothing_seen turns (lines_of bytes) ≡ read → whole read ≡ Ok lab → length bytes ≤ most_scenario_bytes
+    at_lines : (read : Result Seen ScenarioFault) → after_lines nothing_seen turns (lines_of bytes) ≡ read → whole read ≡ Ok lab → length bytes ≤ most_scenario_bytes
     at_lines (Err fault) same e = absurd cc
     at_lines (Ok seen) same e = lines_in_limit nothing_seen turns (length bytes) 1 0 (lines_in bytes) seen (omega arith) (omega (arith, all_in_lines bytes)) same
 
-    at_bytes : (blank : Bool) → cond blank (Err (fault_at 1 kind.NoLab)) (whole (lines_read nothing_seen turns (lines_of bytes))) ≡ Ok lab → length bytes ≤ most_scenario_bytes
+    at_bytes : (blank : Bool) → cond blank (Err (fault_at 1 kind.NoLab)) (whole (after_lines nothing_seen turns (lines_of bytes))) ≡ Ok lab → length bytes ≤ most_scenario_bytes
     at_bytes true e = absurd cc
-    at_bytes false e = at_lines (lines_read nothing_seen turns (lines_of bytes)) refl e
+    at_bytes false e = at_lines (after_lines nothing_seen turns (lines_of bytes)) refl e

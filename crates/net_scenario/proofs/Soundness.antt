@@ -17,7 +17,7 @@ use Rattle.net_laboratory.specs.Limits.{most_links, most_nodes, most_failing_cal
 use Rattle.net_laboratory.specs.Scenario.{Laboratory, is_declared}
 use Rattle.net_laboratory.specs.Amounts.{is_settle, ends_in_settle}
 use Rattle.net_laboratory.specs.Sound.{Declarations, is_lifetime, is_default_settle, default_settle, are_admitted, end_in_settle, admits_node, admits_link, admits_command, is_sound}
-use Rattle.net_scenario.specs.Seen.{Seen, declared_by, is_empty, is_opened, closed, given, with_line, admits, is_sound_so_far, scenario_in}
+use Rattle.net_scenario.specs.Seen.{Seen, declared_by, is_empty, is_opened, with_last_settle, schedule_of, with_line, admits, is_sound_so_far, scenario_in}
 use Rattle.net_scenario.proofs.Bools.{both, and_true, or_left, or_right, or_more, or_true, under, not_true, none_not_some, empty_is_nil}
 
 -- ---- lists of which each item may stand behind those before it
@@ -219,26 +219,26 @@ closes_with d before (c ∷ next ∷ commands) h unsettled =
     and_true (admits_command d before c) _ here.0
     (closes_with d (before ++ c ∷ []) (next ∷ commands) here.1 (ap ends_in_settle (append_assoc before (c ∷ []) (next ∷ commands)) ∙ unsettled))
 
-closed_at : (d : Declarations) (commands : List Command) (ends : Bool) → ends_in_settle commands ≡ ends → are_admitted (admits_command d) [] commands ≡ true
+with_last_settle_at : (d : Declarations) (commands : List Command) (ends : Bool) → ends_in_settle commands ≡ ends → are_admitted (admits_command d) [] commands ≡ true
     → end_in_settle d [] (if ends then commands else commands ++ default_settle ∷ []) ≡ true
-closed_at d commands true e h = closes d [] commands h (sym (ends_last commands) ∙ e)
-closed_at d commands false e h = closes_with d [] commands h e
+with_last_settle_at d commands true e h = closes d [] commands h (sym (ends_last commands) ∙ e)
+with_last_settle_at d commands false e h = closes_with d [] commands h e
 
-given_fits : (turns : List Turn) → nat_le (length turns) most_turns ≡ true → option_map_or (λ g. is_between 1 most_turns (length g.turns)) (given turns) true ≡ true
-given_fits [] h = refl
-given_fits (turn ∷ turns) h = grind (arith, nat_tests)
+schedule_fits : (turns : List Turn) → nat_le (length turns) most_turns ≡ true → option_map_or (λ g. is_between 1 most_turns (length g.turns)) (schedule_of turns) true ≡ true
+schedule_fits [] h = refl
+schedule_fits (turn ∷ turns) h = grind (arith, nat_tests)
 
 pub scenario_is_sound : (seen : Seen) → is_sound_so_far seen ≡ true → is_sound (scenario_in seen) ≡ true
 unfolding is_sound scenario_in
 scenario_is_sound seen sound =
     let p = parts_of seen sound in
     and_true _ _
-    (and_true _ (end_in_settle (declared_by seen) [] (closed seen.commands))
+    (and_true _ (end_in_settle (declared_by seen) [] (with_last_settle seen.commands))
     (and_true _ (are_admitted (admits_link seen.nodes) [] seen.links)
     (and_true (is_lifetime seen.ttl) (are_admitted admits_node [] seen.nodes) p.ttl p.nodes)
     p.links)
-    (closed_at (declared_by seen) seen.commands (ends_in_settle seen.commands) refl p.commands))
-    (given_fits seen.turns p.turns)
+    (with_last_settle_at (declared_by seen) seen.commands (ends_in_settle seen.commands) refl p.commands))
+    (schedule_fits seen.turns p.turns)
 
 -- nothing is declared or commanded before the line of the laboratory
 pub none_before : (seen : Seen) (kind : Kind) (ttl : Option ℕ) → is_sound_so_far seen ≡ true → admits seen (says.Lab kind ttl) ≡ true → (seen.nodes ≡ []) × (seen.commands ≡ [])

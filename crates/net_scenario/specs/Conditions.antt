@@ -56,7 +56,24 @@ end_field word.Sync = Some (codes "node")
 end_field word.LinkDrain = Some (codes "node")
 end_field word.Metric = Some (codes "node")
 end_field word.Script = Some (codes "from")
-end_field _ = None
+end_field word.Lab = None
+end_field word.Node = None
+end_field word.Link = None
+end_field word.Settle = None
+end_field word.Tick = None
+end_field word.Set = None
+end_field word.Own = None
+end_field word.Disown = None
+end_field word.Restart = None
+end_field word.Up = None
+end_field word.Down = None
+end_field word.Get = None
+end_field word.Drain = None
+end_field word.Advertise = None
+end_field word.Withdraw = None
+end_field word.Aggregate = None
+end_field word.Ask = None
+end_field word.Turn = None
 
 -- the link has no end at the named node
 abbrev pub is_no_end : Seen → Word → Data → Bool
@@ -78,7 +95,25 @@ unfoldable pub is_repeated : Seen → Word → Data → Bool
 is_repeated seen word.Lab d = is_some seen.kind
 is_repeated seen word.Node d = is_declared seen.nodes (text_at (codes "name") d)
 is_repeated seen word.Link d = is_interface_repeated seen d
-is_repeated seen _ d = false
+is_repeated seen word.Settle d = false
+is_repeated seen word.Tick d = false
+is_repeated seen word.Set d = false
+is_repeated seen word.Own d = false
+is_repeated seen word.Disown d = false
+is_repeated seen word.Sync d = false
+is_repeated seen word.Restart d = false
+is_repeated seen word.Up d = false
+is_repeated seen word.Down d = false
+is_repeated seen word.Script d = false
+is_repeated seen word.Get d = false
+is_repeated seen word.Drain d = false
+is_repeated seen word.LinkDrain d = false
+is_repeated seen word.Metric d = false
+is_repeated seen word.Advertise d = false
+is_repeated seen word.Withdraw d = false
+is_repeated seen word.Aggregate d = false
+is_repeated seen word.Ask d = false
+is_repeated seen word.Turn d = false
 
 -- ---- 9
 
@@ -87,7 +122,27 @@ unfoldable pub has_two_owners : Seen → Word → Data → Bool
 has_two_owners seen word.Own d =
     has_other_owner (owners_in seen.commands) (text_at (codes "key") d) (text_at (codes "node") d)
     || is_record_key (kind_in seen) seen.nodes (text_at (codes "key") d)
-has_two_owners seen _ d = false
+has_two_owners seen word.Lab d = false
+has_two_owners seen word.Node d = false
+has_two_owners seen word.Link d = false
+has_two_owners seen word.Settle d = false
+has_two_owners seen word.Tick d = false
+has_two_owners seen word.Set d = false
+has_two_owners seen word.Disown d = false
+has_two_owners seen word.Sync d = false
+has_two_owners seen word.Restart d = false
+has_two_owners seen word.Up d = false
+has_two_owners seen word.Down d = false
+has_two_owners seen word.Script d = false
+has_two_owners seen word.Get d = false
+has_two_owners seen word.Drain d = false
+has_two_owners seen word.LinkDrain d = false
+has_two_owners seen word.Metric d = false
+has_two_owners seen word.Advertise d = false
+has_two_owners seen word.Withdraw d = false
+has_two_owners seen word.Aggregate d = false
+has_two_owners seen word.Ask d = false
+has_two_owners seen word.Turn d = false
 
 -- ---- 10
 
@@ -114,13 +169,13 @@ is_link_too_many seen d =
     nat_le most_links (length seen.links) || is_full_at seen.links (text_at (codes "a") d) || is_full_at seen.links (text_at (codes "b") d)
 
 -- 1 for a key that isn't counted yet
-abbrev pub uncounted : List (List ℕ) → List ℕ → ℕ
-uncounted keys key = cond (is_among key keys) 0 1
+abbrev pub new_keys : List (List ℕ) → List ℕ → ℕ
+new_keys keys key = cond (is_among key keys) 0 1
 
 -- with the keys of the two records that the node publishes there are more keys than there may be
 abbrev pub are_record_keys_too_many : List (List ℕ) → List ℕ → Bool
 are_record_keys_too_many keys name =
-    nat_lt most_keys (length keys + (uncounted keys (link_record_key name) + uncounted keys (prefix_record_key name)))
+    nat_lt most_keys (length keys + (new_keys keys (link_record_key name) + new_keys keys (prefix_record_key name)))
 
 -- the node is one more than there may be, or the keys of its records are too many
 abbrev pub is_node_too_many : Seen → Data → Bool
@@ -138,7 +193,20 @@ passes_limit seen word.Own d = is_key_too_many seen d
 passes_limit seen word.Advertise d = is_prefix_too_many seen d
 passes_limit seen word.Aggregate d = is_prefix_too_many seen d
 passes_limit seen word.Turn d = nat_le most_turns (length seen.turns)
-passes_limit seen _ d = false
+passes_limit seen word.Lab d = false
+passes_limit seen word.Tick d = false
+passes_limit seen word.Disown d = false
+passes_limit seen word.Sync d = false
+passes_limit seen word.Restart d = false
+passes_limit seen word.Up d = false
+passes_limit seen word.Down d = false
+passes_limit seen word.Script d = false
+passes_limit seen word.Get d = false
+passes_limit seen word.Drain d = false
+passes_limit seen word.LinkDrain d = false
+passes_limit seen word.Metric d = false
+passes_limit seen word.Withdraw d = false
+passes_limit seen word.Ask d = false
 
 abbrev pub is_turn : Word → Bool
 is_turn word.Turn = true

@@ -21,13 +21,13 @@ lines_in (b ∷ bytes) = if b == 10 then [] ∷ lines_in bytes else with_first b
 
 -- The lines with their places, of bytes that are so many in all, where the first line begins behind so many bytes. A
 -- line ends with its LF; the last, where it lacks one, with the bytes.
-abbrev pub placed : ℕ → ℕ → ℕ → List (List ℕ) → List Line
-placed total number at [] = []
-placed total number at (text ∷ texts) =
-    record { text = text; number = number; end = min (at + length text + 1) total } ∷ placed total (number + 1) (at + length text + 1) texts
+abbrev pub lines_from : ℕ → ℕ → ℕ → List (List ℕ) → List Line
+lines_from total number at [] = []
+lines_from total number at (text ∷ texts) =
+    record { text = text; number = number; end = min (at + length text + 1) total } ∷ lines_from total (number + 1) (at + length text + 1) texts
 
 abbrev pub lines_of : List ℕ → List Line
-lines_of bytes = placed (length bytes) 1 0 (lines_in bytes)
+lines_of bytes = lines_from (length bytes) 1 0 (lines_in bytes)
 
 -- space, tab and CR
 abbrev pub is_blank_byte : ℕ → Bool
@@ -55,9 +55,9 @@ and_then (Ok seen) next = next seen
 and_then (Err e) next = Err e
 
 -- the lines one after another, up to the first that has a fault
-abbrev pub lines_read : Seen → Bool → List Line → Result Seen ScenarioFault
-lines_read seen turns [] = Ok seen
-lines_read seen turns (line ∷ lines) = and_then (line_step seen turns line) (λ next. lines_read next turns lines)
+abbrev pub after_lines : Seen → Bool → List Line → Result Seen ScenarioFault
+after_lines seen turns [] = Ok seen
+after_lines seen turns (line ∷ lines) = and_then (line_step seen turns line) (λ next. after_lines next turns lines)
 
 -- every line is blank
 abbrev pub is_all_blank : List ℕ → Bool
@@ -70,4 +70,4 @@ whole (Err e) = Err e
 -- The scenario that bytes are, or the first faulty line with the lowest number of a fault. `turns` says whether turn
 -- lines may stand.
 unfoldable pub scenario_of : List ℕ → Bool → Result Laboratory ScenarioFault
-scenario_of bytes turns = if is_all_blank bytes then Err (fault_at 1 fault.NoLab) else whole (lines_read nothing_seen turns (lines_of bytes))
+scenario_of bytes turns = if is_all_blank bytes then Err (fault_at 1 fault.NoLab) else whole (after_lines nothing_seen turns (lines_of bytes))

@@ -64,14 +64,14 @@ is_sound_so_far seen =
     && nat_le (length seen.turns) most_turns
 
 -- the commands, with a settle at their end
-abbrev pub closed : List Command → List Command
-closed commands = if ends_in_settle commands then commands else commands ++ default_settle ∷ []
+abbrev pub with_last_settle : List Command → List Command
+with_last_settle commands = if ends_in_settle commands then commands else commands ++ default_settle ∷ []
 
 -- the turns, where there are turn lines
-abbrev pub given : List Turn → Option Schedule
-given turns = if is_empty turns then None else Some (record { turns = turns })
+abbrev pub schedule_of : List Turn → Option Schedule
+schedule_of turns = if is_empty turns then None else Some (record { turns = turns })
 
 -- the scenario that all lines say
 unfoldable pub scenario_in : Seen → Laboratory
 scenario_in seen =
-    record { kind = kind_in seen; ttl = seen.ttl; nodes = seen.nodes; links = seen.links; commands = closed seen.commands; turns = given seen.turns }
+    record { kind = kind_in seen; ttl = seen.ttl; nodes = seen.nodes; links = seen.links; commands = with_last_settle seen.commands; turns = schedule_of seen.turns }

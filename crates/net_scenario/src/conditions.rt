@@ -9,7 +9,7 @@ ghost use Rattle.net_fields.specs.Members.{text_at, number_or};
 ghost use Rattle.net_fields.specs.Objects.{meets, has_field_that};
 ghost use Rattle.net_laboratory.specs.Scenario.{is_declared, is_end, is_end_of, is_interface, has_interface};
 ghost use Rattle.net_laboratory.specs.Amounts.{has_other_owner, is_of_node, is_record_key, has_offer_room};
-ghost use Rattle.net_scenario.specs.Conditions.{interface_by, interface_a, interface_b, is_interface_repeated, is_full_at, is_link_too_many, uncounted, are_record_keys_too_many, is_node_too_many, is_early, is_bad_field, is_undeclared, is_no_end, is_unknown_name, is_repeated, has_two_owners, is_key_too_many, is_prefix_too_many, passes_limit, is_line_too_many, is_too_many, is_misplaced};
+ghost use Rattle.net_scenario.specs.Conditions.{interface_by, interface_a, interface_b, is_interface_repeated, is_full_at, is_link_too_many, new_keys, are_record_keys_too_many, is_node_too_many, is_early, is_bad_field, is_undeclared, is_no_end, is_unknown_name, is_repeated, has_two_owners, is_key_too_many, is_prefix_too_many, passes_limit, is_line_too_many, is_too_many, is_misplaced};
 ghost use Rattle.net_scenario.specs.Tallied.{seen_in, IsTallied};
 
 use crate::draft::Draft;
@@ -369,8 +369,8 @@ fn is_link_too_many(draft: &Draft, object: &Value) -> bool
 }
 
 /// 1 for a key that isn't counted yet.
-fn uncounted(keys: &Names, key: &str) -> u128
-    ensures { result ≡ uncounted keys.now key.now }
+fn new_keys(keys: &Names, key: &str) -> u128
+    ensures { result ≡ new_keys keys.now key.now }
 {
     if keys.contains(key) { 0 } else { 1 }
 }
@@ -381,7 +381,7 @@ fn are_record_keys_too_many(alloc: Global, keys: &Names, name: &str) -> Result<b
 {
     let link_record = record_key(alloc, "adj:", name)?;
     let prefix_record = record_key(alloc, "prefix:", name)?;
-    let more = uncounted(keys, link_record.as_str()) + uncounted(keys, prefix_record.as_str());
+    let more = new_keys(keys, link_record.as_str()) + new_keys(keys, prefix_record.as_str());
     Ok(keys.len() as u128 + more > MOST_KEYS as u128)
 }
 

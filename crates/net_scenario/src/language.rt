@@ -6,7 +6,7 @@ ghost use Rattle.net_scenario.specs.Gives.{GivesSeen, GivesScenario};
 ghost use Rattle.net_scenario.specs.Language.{is_blank_byte, is_blank, is_all_blank, lines_in, fault_at, after_line, line_step, scenario_of};
 ghost use Rattle.net_laboratory.specs.Limits.{most_scenario_bytes};
 ghost use Rattle.net_laboratory.specs.Amounts.{ends_in_settle};
-ghost use Rattle.net_scenario.specs.Seen.{closed, given, scenario_in};
+ghost use Rattle.net_scenario.specs.Seen.{with_last_settle, schedule_of, scenario_in};
 ghost use Rattle.net_scenario.specs.Tallied.{seen_in, line_at, IsTallied};
 ghost use Rattle.net_scenario.specs.declared.fault.ReadRefusal.TheVariants.{Fault};
 
@@ -70,7 +70,7 @@ fn fault_at(line: &LineRead<'_>, kind: FaultKind) -> ReadRefusal
 
 /// Reads a line that isn't blank into the draft.
 #[tactic(auto, using(crate::proofs::Admitted::line_admitted))]
-fn read_said(alloc: Global, draft: &mut Draft, line: &LineRead<'_>) -> Result<(), ReadRefusal>
+fn read_statement(alloc: Global, draft: &mut Draft, line: &LineRead<'_>) -> Result<(), ReadRefusal>
     requires { IsTallied draft.old }
     ensures gives { GivesSeen (seen_in draft.new) result
         (after_line (seen_in draft.old) line.now.number (line_of (seen_in draft.old) line.now.turns (line_at line.now))) }
@@ -94,7 +94,7 @@ fn read_into(alloc: Global, draft: &mut Draft, line: &LineRead<'_>) -> Result<()
     ensures tallied { OnOk result (IsTallied draft.new) }
 {
     if !is_blank(line.text) {
-        return read_said(alloc, draft, line);
+        return read_statement(alloc, draft, line);
     }
     if line.is_late() {
         return Err(fault_at(line, FaultKind::TooLong));
@@ -103,9 +103,9 @@ fn read_into(alloc: Global, draft: &mut Draft, line: &LineRead<'_>) -> Result<()
 }
 
 /// The commands, with a settle at their end.
-fn closed(commands: Vec<Command>, is_settled: bool) -> Result<Vec<Command>, NoMemory>
+fn with_last_settle(commands: Vec<Command>, is_settled: bool) -> Result<Vec<Command>, NoMemory>
     requires { is_settled ≡ ends_in_settle commands.items }
-    ensures { IfOk result (λ all. all.items ≡ closed commands.items) }
+    ensures { IfOk result (λ all. all.items ≡ with_last_settle commands.items) }
 {
     let mut all = commands;
     if !is_settled {
@@ -118,8 +118,8 @@ fn closed(commands: Vec<Command>, is_settled: bool) -> Result<Vec<Command>, NoMe
 }
 
 /// The turns, where there are some.
-fn given(turns: Vec<Turn>) -> Option<Schedule>
-    ensures { result ≡ given turns.items }
+fn schedule_of(turns: Vec<Turn>) -> Option<Schedule>
+    ensures { result ≡ schedule_of turns.items }
 {
     if turns.is_empty() {
         return None;
@@ -131,25 +131,25 @@ fn given(turns: Vec<Turn>) -> Option<Schedule>
 
 /// The scenario that the lines say.
 #[tactic(auto, unfolding(crate::specs::Seen::scenario_in), using(crate::proofs::Soundness::scenario_is_sound))]
-fn finished(draft: Draft) -> Result<Scenario, NoMemory>
+fn scenario_in(draft: Draft) -> Result<Scenario, NoMemory>
     requires { IsTallied draft }
     ensures { IfOk result (λ scenario. scenario ≡ scenario_in (seen_in draft)) }
 {
     let kind = draft.kind();
-    let commands = closed(draft.commands, draft.tally.is_settled)?;
+    let commands = with_last_settle(draft.commands, draft.tally.is_settled)?;
     Ok(Scenario::new(
         kind,
         draft.ttl,
         Seq::from_vec(draft.nodes),
         Seq::from_vec(draft.links),
         Seq::from_vec(commands),
-        given(draft.turns),
+        schedule_of(draft.turns),
     ))
 }
 
 /// The scenario that bytes are, with turn lines only where `turns` is true; or the first faulty line with the lowest
 /// number of a fault. The time grows in proportion to the bytes, and a scenario has at most [`MOST_SCENARIO_BYTES`](net_laboratory::MOST_SCENARIO_BYTES).
-#[tactic(auto, unfolding(crate::specs::Language::scenario_of), using(crate::proofs::Cuts::placed_next))]
+#[tactic(auto, unfolding(crate::specs::Language::scenario_of), using(crate::proofs::Cuts::lines_from_next))]
 pub fn read_scenario(alloc: Global, bytes: &[u8], turns: bool) -> Result<Scenario, ReadRefusal>
     ensures gives { GivesScenario result (scenario_of bytes.now turns) }
     ensures few { OnOk result (length bytes.now ≤ most_scenario_bytes) }
@@ -175,5 +175,5 @@ pub fn read_scenario(alloc: Global, bytes: &[u8], turns: bool) -> Result<Scenari
         number += 1;
         left = rest;
     }
-    Ok(finished(draft)?)
+    Ok(scenario_in(draft)?)
 }
