@@ -1,10 +1,11 @@
 -- Tests of a list, on what the list is made from.
-use Rattle.std.proofs.Common.{◌≡◌, ℕ, List, [], ◌∷◌, Bool, map, refl, ap, String, Global, string_bytes, length, suc, ◌||◌}
-use Rattle.std.specs.List.{list_any}
+use Rattle.std.proofs.Common.{◌≡◌, ℕ, List, [], ◌∷◌, Bool, map, refl, ap, String, Global, string_bytes, length, suc, ◌&&◌, ◌||◌}
+use Rattle.std.specs.List.{list_all, list_any}
 use Rattle.std.specs.Map.{keys_of}
+use Rattle.serde_json.specs.Data.{Data}
 use Rattle.serde_json.specs.declared.value.Value.{Value}
-use Rattle.serde_json.specs.View.{members_view, items_view}
-use Rattle.net_fields.specs.Forms.{items_len}
+use Rattle.serde_json.specs.View.{view, members_view, items_view}
+use Rattle.net_fields.specs.Forms.{items_len, all_items}
 use Rattle.net_fields.specs.Objects.{any_name}
 
 pub list_any-map : {A B : Type 0} (test : B → Bool) (f : A → B) (xs : List A) → list_any test (map f xs) ≡ list_any (λ x. test (f x)) xs
@@ -23,4 +24,9 @@ pub items_len-items_view : (values : List Value) → items_len (items_view value
 items_len-items_view [] = refl
 items_len-items_view (v ∷ values) = ap suc (items_len-items_view values)
 
-pub ruleset items = (items_len-items_view)
+-- a test of all items, as one of all values
+pub all_items-items_view : (test : Data → Bool) (values : List Value) → all_items test (items_view values) ≡ list_all (λ v. test (view v)) values
+all_items-items_view test [] = refl
+all_items-items_view test (v ∷ values) = ap (λ rest. test (view v) && rest) (all_items-items_view test values)
+
+pub ruleset items = (items_len-items_view, all_items-items_view)

@@ -7,7 +7,7 @@ use Rattle.hex.specs.Hex.{decode_of}
 use Rattle.hex.specs.declared.error.FromHexError.{FromHexError}
 use Rattle.serde_json.specs.Data.{Data, Items, no_items, item}
 use Rattle.serde_json.specs.Find.{as_bool, as_str, as_number, as_u64, as_array}
-use Rattle.or_base.specs.Limits.{is_between, is_name_byte}
+use Rattle.or_base.specs.Limits.{most_key_bytes, most_value_bytes, is_between, is_name_byte, is_key_byte}
 use Rattle.or_base.specs.declared.act.Act.{Act}
 use Rattle.or_base.specs.declared.act.Act.TheVariants as act
 use Rattle.or_base.specs.declared.kind.Kind.{Kind}
@@ -15,6 +15,7 @@ use Rattle.or_base.specs.declared.kind.Kind.TheVariants as kind
 use Rattle.or_prefix.specs.Reading.{prefix_of}
 use Rattle.net_fields.specs.declared.form.Form.{Form}
 use Rattle.net_fields.specs.declared.form.Form.TheVariants as form
+use Rattle.net_laboratory.specs.Limits.{most_acts}
 use Rattle.net_laboratory.specs.declared.show.Show.{Show}
 use Rattle.net_laboratory.specs.declared.show.Show.TheVariants as show
 
@@ -26,7 +27,7 @@ is_name text = nat_le 1 (length text) && list_all is_name_byte text
 
 -- a key, but for its length
 abbrev pub is_key_text : List ℕ → Bool
-is_key_text text = nat_le 1 (length text) && list_all (is_between 0x21 0x7e) text
+is_key_text text = nat_le 1 (length text) && list_all is_key_byte text
 
 -- a hexadecimal digit, in either case
 abbrev pub is_hex_byte : ℕ → Bool
@@ -114,12 +115,12 @@ fits form.Show d = is_text_with (λ text. is_some (show_of text)) d
 fits form.Prefix d = is_some (as_str d)
 fits form.Acts d = is_some (as_array d)
 
--- the value is a text that is too long for the form: a name past its limit, a key past 128 bytes, a value past 4,096
+-- the value is a text that is too long for the form
 unfoldable pub is_long : Form → Data → Bool
 is_long (form.Name longest) d = is_text_with (λ text. nat_lt longest (length text)) d
-is_long form.Key d = is_text_with (λ text. nat_lt 128 (length text)) d
-is_long form.Hex d = is_text_with (λ text. nat_lt 4096 (length text / 2)) d
-is_long form.Text d = is_text_with (λ text. nat_lt 4096 (length text)) d
+is_long form.Key d = is_text_with (λ text. nat_lt most_key_bytes (length text)) d
+is_long form.Hex d = is_text_with (λ text. nat_lt most_value_bytes (length text / 2)) d
+is_long form.Text d = is_text_with (λ text. nat_lt most_value_bytes (length text)) d
 is_long _ d = false
 
 -- a text that should be a prefix and isn't
@@ -128,10 +129,10 @@ is_no_prefix form.Prefix d = is_text_with (λ text. is_none (prefix_of text)) d
 is_no_prefix _ d = false
 
 -- a text that names an act
-abbrev pub is_act : Data → Bool
-is_act d = is_text_with (λ text. is_some (act_of text)) d
+abbrev pub names_act : Data → Bool
+names_act d = is_text_with (λ text. is_some (act_of text)) d
 
--- a list that should be 1 to 256 known acts and isn't
+-- a list that should be a script of known acts and isn't
 unfoldable pub is_no_script : Form → Data → Bool
-is_no_script form.Acts d = option_map_or (λ ds. not (is_between 1 256 (items_len ds) && all_items is_act ds)) (as_array d) false
+is_no_script form.Acts d = option_map_or (λ ds. not (is_between 1 most_acts (items_len ds) && all_items names_act ds)) (as_array d) false
 is_no_script _ d = false

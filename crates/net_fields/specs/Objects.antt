@@ -11,20 +11,26 @@ use Rattle.net_fields.specs.declared.word.Word.{Word}
 use Rattle.net_fields.specs.declared.word.Word.TheVariants as word
 use Rattle.net_fields.specs.Word.{word_of}
 use Rattle.net_fields.specs.Fields.{Entry, fields_of}
-use Rattle.net_fields.specs.Forms.{fits, is_long, is_no_prefix, is_no_script}
+use Rattle.net_fields.specs.declared.flaws.Flaw.{Flaw}
+use Rattle.net_fields.specs.declared.flaws.Flaw.TheVariants as flaw
+use Rattle.net_fields.specs.Flaws.{has_flaw}
 use Rattle.net_fields.specs.Members.{has, text_at}
 
 -- the JSON object that a line is
 unfoldable pub object_in : List ℕ → Option Data
 object_in line = option_and_then (λ d. if is_some (as_object d) then Some d else None) (read line)
 
+-- what its `do` says as text
+abbrev pub do_text : Data → Option (List ℕ)
+do_text d = option_and_then as_str (get (codes "do") d)
+
 -- the command that an object names
 unfoldable pub word_in : Data → Option Word
-word_in d = option_and_then word_of (option_and_then as_str (get (codes "do") d))
+word_in d = option_and_then word_of (do_text d)
 
 -- its `do` is the text `lab`
 unfoldable pub is_lab : Data → Bool
-is_lab d = option_map_or (λ text. bytes_eq text (codes "lab")) (option_and_then as_str (get (codes "do") d)) false
+is_lab d = option_map_or (λ text. bytes_eq text (codes "lab")) (do_text d) false
 
 -- ---- its fields
 
@@ -40,11 +46,13 @@ has_field_that test w d = list_any (meets test d) (fields_of w)
 abbrev pub is_absent : Data → Entry → Bool
 is_absent d f = f.is_needed && not (has f.name d)
 
+-- the name is that of one of the fields
+abbrev pub is_named : List Entry → List ℕ → Bool
+is_named fields name = list_any (λ f. bytes_eq f.name name) fields
+
 -- the command takes a value, as `hex` or as `text`
 abbrev pub takes_value : Word → Bool
-takes_value word.Set = true
-takes_value word.Own = true
-takes_value _ = false
+takes_value w = is_named (fields_of w) (codes "hex")
 
 -- a field that isn't optional is missing; of `hex` and `text`, both
 unfoldable pub is_field_missing : Word → Data → Bool
@@ -56,30 +64,34 @@ abbrev pub any_name : (List ℕ → Bool) → Members → Bool
 any_name test no_members = false
 any_name test (member name d ms) = test name || any_name test ms
 
-abbrev pub is_named : List Entry → List ℕ → Bool
-is_named fields name = list_any (λ f. bytes_eq f.name name) fields
-
 -- a member isn't a field of the command
 unfoldable pub has_other_member : Word → Data → Bool
 has_other_member w d = option_map_or (any_name (λ name. not (is_named (fields_of w) name))) (as_object d) false
 
--- a value is given twice, or the two ends of a link are one node
+abbrev pub is_link : Word → Bool
+is_link word.Link = true
+is_link _ = false
+
+-- a value is said twice, or the two ends of a link are one node
 unfoldable pub is_contradictory : Word → Data → Bool
-is_contradictory word.Set d = has (codes "hex") d && has (codes "text") d
-is_contradictory word.Own d = has (codes "hex") d && has (codes "text") d
-is_contradictory word.Link d = bytes_eq (text_at (codes "a") d) (text_at (codes "b") d)
-is_contradictory _ d = false
+is_contradictory w d =
+    (takes_value w && has (codes "hex") d && has (codes "text") d)
+    || (is_link w && bytes_eq (text_at (codes "a") d) (text_at (codes "b") d))
+
+-- some field of the command is there with a value that has the flaw
+unfoldable pub has_field_with : Flaw → Word → Data → Bool
+has_field_with flaw w d = has_field_that (has_flaw flaw) w d
 
 -- a field has a value that its form doesn't take
-unfoldable pub has_unfit_field : Word → Data → Bool
-has_unfit_field w d = has_field_that (λ f v. not (fits f v)) w d
+abbrev pub has_unfit_field : Word → Data → Bool
+has_unfit_field w d = has_field_with flaw.Unfit w d
 
 -- a name, a key or a value is too long
-unfoldable pub has_long_field : Word → Data → Bool
-has_long_field w d = has_field_that is_long w d
+abbrev pub has_long_field : Word → Data → Bool
+has_long_field w d = has_field_with flaw.Long w d
 
-unfoldable pub has_bad_prefix : Word → Data → Bool
-has_bad_prefix w d = has_field_that is_no_prefix w d
+abbrev pub has_bad_prefix : Word → Data → Bool
+has_bad_prefix w d = has_field_with flaw.NoPrefix w d
 
-unfoldable pub has_bad_script : Word → Data → Bool
-has_bad_script w d = has_field_that is_no_script w d
+abbrev pub has_bad_script : Word → Data → Bool
+has_bad_script w d = has_field_with flaw.NoScript w d

@@ -33,6 +33,20 @@ word_of name =
 
 -- the command belongs to full laboratories
 abbrev pub is_for_full : Word → Bool
+is_for_full Lab = false
+is_for_full Node = false
+is_for_full Link = false
+is_for_full Settle = false
+is_for_full Tick = false
+is_for_full Set = false
+is_for_full Own = false
+is_for_full Disown = false
+is_for_full Sync = false
+is_for_full Restart = false
+is_for_full Up = false
+is_for_full Down = false
+is_for_full Script = false
+is_for_full Get = false
 is_for_full Drain = true
 is_for_full LinkDrain = true
 is_for_full Metric = true
@@ -40,4 +54,4 @@ is_for_full Advertise = true
 is_for_full Withdraw = true
 is_for_full Aggregate = true
 is_for_full Ask = true
-is_for_full _ = false
+is_for_full Turn = false

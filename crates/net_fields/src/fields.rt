@@ -1,14 +1,22 @@
 ghost use Rattle.std.specs.Prelude.{◌≡◌, map};
-ghost use Rattle.net_fields.specs.Fields.{entry_of, fields_of as fields_listed};
+ghost use Rattle.net_fields.specs.Fields.{field_entry, fields_of};
 
 use crate::field::Field;
 use crate::form::Form;
 use crate::word::Word;
+use net_laboratory::{
+    LAST_FAILING_CALL, MOST_AGGREGATED_ROUTES, MOST_FAILING_CALLS, MOST_LANE, MOST_LENGTH, MOST_MOMENT,
+    MOST_ROUNDS,
+};
+use or_base::{
+    MOST_INTERFACE_NAME_BYTES, MOST_LIFETIME, MOST_METRIC, MOST_NODE_NAME_BYTES, MOST_PREFERENCE,
+    MOST_TTL_VERSION, MOST_VERSION,
+};
 
 /// What an object may say for a command, `do` first.
 #[tactic(auto, unfolding(crate::specs::Fields::fields_of))]
 pub fn fields_of(word: Word) -> &'static [Field]
-    ensures { map entry_of result.now ≡ fields_listed word }
+    ensures { map field_entry result.now ≡ fields_of word }
 {
     match word {
         Word::Lab => &LAB,
@@ -38,21 +46,19 @@ pub fn fields_of(word: Word) -> &'static [Field]
 
 // The ranges of numbers that several fields have.
 
-const MOST_METRIC: u64 = (1 << 31) - 1;
-
 const LIFETIME: Form = Form::Number {
     least: 1,
-    most: 1 << 40,
+    most: MOST_LIFETIME,
 };
 
 const METRIC_RANGE: Form = Form::Number {
     least: 1,
-    most: MOST_METRIC,
+    most: MOST_METRIC as u64,
 };
 
 const PREFERENCE: Form = Form::Number {
     least: 0,
-    most: MOST_METRIC,
+    most: MOST_PREFERENCE as u64,
 };
 
 // The fields that several commands have.
@@ -128,15 +134,17 @@ static NODE: [Field; 3] = [
     Field {
         name: "name",
         is_needed: true,
-        form: Form::Name { longest: 20 },
+        form: Form::Name {
+            longest: MOST_NODE_NAME_BYTES as u64,
+        },
     },
     Field {
         name: "faults",
         is_needed: false,
         form: Form::Numbers {
-            count: 64,
+            count: MOST_FAILING_CALLS,
             least: 1,
-            most: 500_000,
+            most: LAST_FAILING_CALL,
         },
     },
 ];
@@ -156,12 +164,16 @@ static LINK: [Field; 7] = [
     Field {
         name: "aif",
         is_needed: false,
-        form: Form::Name { longest: 24 },
+        form: Form::Name {
+            longest: MOST_INTERFACE_NAME_BYTES as u64,
+        },
     },
     Field {
         name: "bif",
         is_needed: false,
-        form: Form::Name { longest: 24 },
+        form: Form::Name {
+            longest: MOST_INTERFACE_NAME_BYTES as u64,
+        },
     },
     Field {
         name: "am",
@@ -182,7 +194,7 @@ static SETTLE: [Field; 3] = [
         is_needed: false,
         form: Form::Number {
             least: 1,
-            most: 100_000,
+            most: MOST_ROUNDS,
         },
     },
     Field {
@@ -199,7 +211,7 @@ static TICK: [Field; 2] = [
         is_needed: true,
         form: Form::Number {
             least: 0,
-            most: 1 << 40,
+            most: MOST_MOMENT,
         },
     },
 ];
@@ -213,7 +225,7 @@ static SET: [Field; 9] = [
         is_needed: true,
         form: Form::Number {
             least: 1,
-            most: 1 << 62,
+            most: MOST_VERSION,
         },
     },
     HEX,
@@ -221,7 +233,9 @@ static SET: [Field; 9] = [
     Field {
         name: "originator",
         is_needed: false,
-        form: Form::Name { longest: 20 },
+        form: Form::Name {
+            longest: MOST_NODE_NAME_BYTES as u64,
+        },
     },
     TTL,
     Field {
@@ -229,7 +243,7 @@ static SET: [Field; 9] = [
         is_needed: false,
         form: Form::Number {
             least: 0,
-            most: 1 << 62,
+            most: MOST_TTL_VERSION,
         },
     },
 ];
@@ -310,7 +324,7 @@ static AGGREGATE: [Field; 4] = [
         is_needed: true,
         form: Form::Number {
             least: 1,
-            most: 1_000,
+            most: MOST_AGGREGATED_ROUTES,
         },
     },
 ];
@@ -324,7 +338,7 @@ static TURN: [Field; 3] = [
         is_needed: true,
         form: Form::Number {
             least: 0,
-            most: (1 << 32) - 1,
+            most: MOST_LANE,
         },
     },
     Field {
@@ -332,7 +346,7 @@ static TURN: [Field; 3] = [
         is_needed: true,
         form: Form::Number {
             least: 0,
-            most: u64::MAX,
+            most: MOST_LENGTH,
         },
     },
 ];

@@ -9,7 +9,7 @@ pub enum Form {
     Node,
     /// The number of a declared link.
     Link,
-    /// A key: 1 to 128 bytes from 0x21 to 0x7e.
+    /// A key.
     Key,
     /// Bytes as an even number of hexadecimal digits of either case.
     Hex,
@@ -25,6 +25,6 @@ pub enum Form {
     Show,
     /// A prefix.
     Prefix,
-    /// A list of 1 to 256 acts.
+    /// A script: a list of at least one act, and of at most so many as a script has.
     Acts,
 }

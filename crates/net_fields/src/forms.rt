@@ -1,61 +1,45 @@
 ghost use Rattle.std.specs.Prelude.{◌≡◌};
 ghost use Rattle.std.specs.List.{list_all};
-ghost use Rattle.serde_json.specs.View.{view, items_view};
-ghost use Rattle.net_fields.specs.Forms.{
-  is_name as is_name_text,
-  is_key_text as is_key_bytes,
-  is_hex as is_hex_text,
-  is_hex_byte as is_hex_digit,
-  kind_of as kind_named,
-  show_of as show_named,
-  act_of as act_named,
-  is_number_in as is_natural_in,
-  all_items,
-  are_numbers as are_naturals,
-  fits as fits_form,
-  is_long as is_long_for,
-  is_no_prefix as is_no_prefix_for,
-  is_no_script as is_no_script_for,
-  is_act as is_act_text,
-};
+ghost use Rattle.serde_json.specs.View.{view};
+ghost use Rattle.net_fields.specs.Forms.{is_name, is_key_text, is_hex, is_hex_byte, kind_of, show_of, act_of, is_number_in, are_numbers, fits, is_long, is_no_prefix, is_no_script, names_act};
 
 use crate::form::Form;
-use crate::show::Show;
-use or_base::{Act, Kind, has_key_bytes, has_name_bytes};
+use net_laboratory::{MOST_ACTS, Show};
+use or_base::{Act, Kind, MOST_KEY_BYTES, MOST_VALUE_BYTES, has_key_bytes, has_name_bytes};
 use or_prefix::read_prefix;
 use serde_json::Value;
 
 /// At least one byte, each of which may stand in a name.
 fn is_name(text: &str) -> bool
-    ensures { result ≡ is_name_text text.now }
+    ensures { result ≡ is_name text.now }
 {
     1 <= text.len() && has_name_bytes(text.as_bytes())
 }
 
 /// At least one byte, each of which may stand in a key.
 fn is_key_text(text: &str) -> bool
-    ensures { result ≡ is_key_bytes text.now }
+    ensures { result ≡ is_key_text text.now }
 {
     1 <= text.len() && has_key_bytes(text.as_bytes())
 }
 
 /// A hexadecimal digit of either case.
 fn is_hex_byte(byte: u8) -> bool
-    ensures { result ≡ is_hex_digit byte }
+    ensures { result ≡ is_hex_byte byte }
 {
     matches!(byte, b'0'..=b'9' | b'a'..=b'f' | b'A'..=b'F')
 }
 
 /// Each byte is a hexadecimal digit.
 fn has_hex_bytes(text: &[u8]) -> bool
-    ensures { result ≡ list_all is_hex_digit text.now }
+    ensures { result ≡ list_all is_hex_byte text.now }
 {
     text.iter().all(|&byte| is_hex_byte(byte))
 }
 
 /// An even number of hexadecimal digits.
 fn is_hex(text: &str) -> bool
-    ensures { result ≡ is_hex_text text.now }
+    ensures { result ≡ is_hex text.now }
 {
     text.len() % 2 == 0 && has_hex_bytes(text.as_bytes())
 }
@@ -63,7 +47,7 @@ fn is_hex(text: &str) -> bool
 /// The kind of laboratory of this name.
 #[tactic(auto, unfolding(crate::specs::Forms::kind_of))]
 pub(crate) fn kind_of(text: &str) -> Option<Kind>
-    ensures { result ≡ kind_named text.now }
+    ensures { result ≡ kind_of text.now }
 {
     match text {
         "stores" => Some(Kind::Stores),
@@ -75,7 +59,7 @@ pub(crate) fn kind_of(text: &str) -> Option<Kind>
 /// What the report of a settle shows under this name.
 #[tactic(auto, unfolding(crate::specs::Forms::show_of))]
 pub(crate) fn show_of(text: &str) -> Option<Show>
-    ensures { result ≡ show_named text.now }
+    ensures { result ≡ show_of text.now }
 {
     match text {
         "both" => Some(Show::Both),
@@ -89,7 +73,7 @@ pub(crate) fn show_of(text: &str) -> Option<Show>
 /// The act of this name.
 #[tactic(auto, unfolding(crate::specs::Forms::act_of))]
 pub(crate) fn act_of(text: &str) -> Option<Act>
-    ensures { result ≡ act_named text.now }
+    ensures { result ≡ act_of text.now }
 {
     match text {
         "pass" => Some(Act::Pass),
@@ -110,29 +94,22 @@ pub(crate) fn act_of(text: &str) -> Option<Act>
 
 /// A JSON number from the one to the other, written without sign, fraction and exponent.
 fn is_number_in(least: u64, most: u64, value: &Value) -> bool
-    ensures { result ≡ is_natural_in least most (view value.now) }
+    ensures { result ≡ is_number_in least most (view value.now) }
 {
     value.as_u64().is_some_and(|n| least <= n && n <= most)
 }
 
 /// Each value is such a number.
 fn all_numbers(least: u64, most: u64, values: &[Value]) -> bool
-    ensures { result ≡ all_items (is_natural_in least most) (items_view values.now) }
+    ensures { result ≡ list_all (λ v. is_number_in least most (view v)) values.now }
 {
-    let mut left = values;
-    while let Some((value, rest)) = left.split_first() {
-        if !is_number_in(least, most, value) {
-            return false;
-        }
-        left = rest;
-    }
-    true
+    values.iter().all(|value| is_number_in(least, most, value))
 }
 
 /// A list of at most so many such numbers.
 #[tactic(auto, using(crate::proofs::Lists::items))]
 fn are_numbers(count: u64, least: u64, most: u64, value: &Value) -> bool
-    ensures { result ≡ are_naturals count least most (view value.now) }
+    ensures { result ≡ are_numbers count least most (view value.now) }
 {
     match value.as_array() {
         Some(values) => values.len() as u64 <= count && all_numbers(least, most, values.as_slice()),
@@ -143,7 +120,7 @@ fn are_numbers(count: u64, least: u64, most: u64, value: &Value) -> bool
 /// The form takes the value. How long it is, and what it names, is asked elsewhere.
 #[tactic(auto, unfolding(crate::specs::Forms::fits))]
 pub(crate) fn fits(form: Form, value: &Value) -> bool
-    ensures { result ≡ fits_form form (view value.now) }
+    ensures { result ≡ fits form (view value.now) }
 {
     match form {
         Form::Text => value.is_string(),
@@ -165,15 +142,21 @@ pub(crate) fn fits(form: Form, value: &Value) -> bool
 /// The value is a text past the form's limit.
 #[tactic(auto, unfolding(crate::specs::Forms::is_long))]
 pub(crate) fn is_long(form: Form, value: &Value) -> bool
-    ensures { result ≡ is_long_for form (view value.now) }
+    ensures { result ≡ is_long form (view value.now) }
 {
     match form {
         Form::Name { longest } => value
             .as_str()
             .is_some_and(|text| longest < text.len() as u64),
-        Form::Key => value.as_str().is_some_and(|text| 128 < text.len()),
-        Form::Hex => value.as_str().is_some_and(|text| 4096 < text.len() / 2),
-        Form::Text => value.as_str().is_some_and(|text| 4096 < text.len()),
+        Form::Key => value
+            .as_str()
+            .is_some_and(|text| MOST_KEY_BYTES < text.len()),
+        Form::Hex => value
+            .as_str()
+            .is_some_and(|text| MOST_VALUE_BYTES < text.len() / 2),
+        Form::Text => value
+            .as_str()
+            .is_some_and(|text| MOST_VALUE_BYTES < text.len()),
         _ => false,
     }
 }
@@ -181,7 +164,7 @@ pub(crate) fn is_long(form: Form, value: &Value) -> bool
 /// The value is a text that should be a prefix and isn't.
 #[tactic(auto, unfolding(crate::specs::Forms::is_no_prefix))]
 pub(crate) fn is_no_prefix(form: Form, value: &Value) -> bool
-    ensures { result ≡ is_no_prefix_for form (view value.now) }
+    ensures { result ≡ is_no_prefix form (view value.now) }
 {
     match form {
         Form::Prefix => value
@@ -192,35 +175,28 @@ pub(crate) fn is_no_prefix(form: Form, value: &Value) -> bool
 }
 
 /// The value is a text that names an act.
-fn is_act(value: &Value) -> bool
-    ensures { result ≡ is_act_text (view value.now) }
+fn names_act(value: &Value) -> bool
+    ensures { result ≡ names_act (view value.now) }
 {
     value.as_str().is_some_and(|text| act_of(text).is_some())
 }
 
 /// Each value names an act.
 fn all_acts(values: &[Value]) -> bool
-    ensures { result ≡ all_items is_act_text (items_view values.now) }
+    ensures { result ≡ list_all (λ v. names_act (view v)) values.now }
 {
-    let mut left = values;
-    while let Some((value, rest)) = left.split_first() {
-        if !is_act(value) {
-            return false;
-        }
-        left = rest;
-    }
-    true
+    values.iter().all(|value| names_act(value))
 }
 
-/// The value is a list that should be 1 to 256 acts and isn't.
+/// The value is a list that should be a script and isn't.
 #[tactic(auto, unfolding(crate::specs::Forms::is_no_script), using(crate::proofs::Lists::items))]
 pub(crate) fn is_no_script(form: Form, value: &Value) -> bool
-    ensures { result ≡ is_no_script_for form (view value.now) }
+    ensures { result ≡ is_no_script form (view value.now) }
 {
     match form {
         Form::Acts => match value.as_array() {
             Some(values) => !(1 <= values.len()
-                && values.len() <= 256
+                && values.len() <= MOST_ACTS
                 && all_acts(values.as_slice())),
             None => false,
         },

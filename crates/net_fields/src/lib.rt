@@ -5,19 +5,20 @@
 //! (`specs/Objects.antt`: a field is missing, unknown, of the wrong form, too long, no prefix, no script) is asked of
 //! all commands by one definition each, and the functions here compute exactly those. `specs/Members.antt` says what is
 //! read of a member; each reading is total, so that what a faulty line says needs no case of its own.
-//! `specs/Asked.antt` says in which forms a test can find something, so that a field of another form isn't looked up.
+//! `specs/Flaws.antt` says in which forms a value can have a flaw, so that a field of another form isn't looked up.
 //!
 //! The files: `word` (the commands), `form`, `field` and `fields` (the table), `forms` (what values a form takes),
-//! `members` (single members), `objects` (what is asked of an object), `show`.
+//! `members` (single members), `flaws` (what can be wrong with the value of a field), `objects` (what is asked of an
+//! object).
 #![tactic(auto)]
 
 mod field;
 mod fields;
+mod flaws;
 mod form;
 mod forms;
 mod members;
 mod objects;
-mod show;
 mod word;
 
 pub use field::Field;
@@ -29,7 +30,6 @@ pub use members::{
 };
 pub use objects::{
     has_bad_prefix, has_bad_script, has_long_field, has_other_member, has_unfit_field,
-    is_contradictory, is_field_missing, is_lab, object_of, text_of, word_in,
+    is_contradictory, is_field_missing, is_lab, object_in, text_of, word_in,
 };
-pub use show::Show;
 pub use word::{Word, is_for_full, word_of};

@@ -1,5 +1,5 @@
 ghost use Rattle.std.specs.Prelude.{◌≡◌};
-ghost use Rattle.net_fields.specs.Word.{word_of as word_named, is_for_full as is_for_full_word};
+ghost use Rattle.net_fields.specs.Word.{word_of, is_for_full};
 
 /// A command of the language.
 #[derive(Clone, Copy, Debug, PartialEq, Eq)]
@@ -31,7 +31,7 @@ pub enum Word {
 /// The command of this name.
 #[tactic(auto, unfolding(crate::specs::Word::word_of))]
 pub fn word_of(name: &str) -> Option<Word>
-    ensures { result ≡ word_named name.now }
+    ensures { result ≡ word_of name.now }
 {
     match name {
         "lab" => Some(Word::Lab),
@@ -62,7 +62,7 @@ pub fn word_of(name: &str) -> Option<Word>
 
 /// The command belongs to full laboratories.
 pub fn is_for_full(word: Word) -> bool
-    ensures { result ≡ is_for_full_word word }
+    ensures { result ≡ is_for_full word }
 {
     matches!(
         word,

@@ -12,7 +12,7 @@ pub first_of : {a : Bool} (b : Bool) → (a && b) ≡ true → a ≡ true
 first_of {a} b h = (and_parts a b h).0
 
 -- as many items as may stand
-few : {X : Type 0} (admits : List X → X → Bool) (most : ℕ) → ((before : List X) (x : X) → admits before x ≡ true → length before < most)
+pub few : {X : Type 0} (admits : List X → X → Bool) (most : ℕ) → ((before : List X) (x : X) → admits before x ≡ true → length before < most)
     → (before xs : List X) → length before ≤ most → are_admitted admits before xs ≡ true → length before + length xs ≤ most
 few admits most room before [] fits h = omega arith
 few admits most room before (x ∷ xs) fits h =
@@ -22,11 +22,11 @@ few admits most room before (x ∷ xs) fits h =
     let rest : length (before ++ x ∷ []) + length xs ≤ most = few admits most room (before ++ x ∷ []) xs (omega (arith, len, here)) parts.1 in
     omega (arith, len, rest)
 
-node_room : (before : List NodeDecl) (node : NodeDecl) → admits_node before node ≡ true → length before < most_nodes
+pub node_room : (before : List NodeDecl) (node : NodeDecl) → admits_node before node ≡ true → length before < most_nodes
 unfolding admits_node
 node_room before node h = ltb-true (length before) most_nodes (first_of _ (first_of _ (first_of _ (first_of _ h))))
 
-link_room : (nodes : List NodeDecl) (before : List LinkDecl) (link : LinkDecl) → admits_link nodes before link ≡ true → length before < most_links
+pub link_room : (nodes : List NodeDecl) (before : List LinkDecl) (link : LinkDecl) → admits_link nodes before link ≡ true → length before < most_links
 unfolding admits_link
 link_room nodes before link h =
     ltb-true (length before) most_links (first_of _ (first_of _ (first_of _ (first_of _ (first_of _ (first_of _ (first_of _ (first_of _ (first_of _ (first_of _ (first_of _ h)))))))))))

@@ -1,5 +1,6 @@
--- The limits of a scenario, beside those of names, keys and values.
+-- The limits of a scenario, beside those of names, keys, values, metrics and preferences.
 use Rattle.std.specs.Prelude.{ℕ, ◌-◌, ◌^◌}
+use Rattle.or_base.specs.Limits.{most_adjacencies, most_prefix_entries}
 
 -- ---- bytes and lines
 
@@ -33,12 +34,9 @@ last_failing_call = 500000
 abbrev pub most_links : ℕ
 most_links = 256
 
+-- as many as a link record has adjacencies
 abbrev pub most_links_of_node : ℕ
-most_links_of_node = 24
-
--- metrics are from 1
-abbrev pub most_metric : ℕ
-most_metric = 2 ^ 31 - 1
+most_links_of_node = most_adjacencies
 
 -- ---- commands
 
@@ -46,9 +44,9 @@ most_metric = 2 ^ 31 - 1
 abbrev pub most_keys : ℕ
 most_keys = 512
 
--- distinct prefixes that a node advertises or aggregates
+-- distinct prefixes that a node advertises or aggregates: as many as a prefix record has entries
 abbrev pub most_prefixes_of_node : ℕ
-most_prefixes_of_node = 32
+most_prefixes_of_node = most_prefix_entries
 
 abbrev pub most_settles : ℕ
 most_settles = 1000
@@ -68,10 +66,6 @@ most_acts = 256
 -- for how many further messages an act holds one back, from 1
 abbrev pub most_delay : ℕ
 most_delay = 9
-
--- what selection compares of a prefix
-abbrev pub most_preference : ℕ
-most_preference = 2 ^ 31 - 1
 
 -- the routes that an aggregate waits for, from 1
 abbrev pub most_aggregated_routes : ℕ
@@ -93,3 +87,13 @@ default_source = 100
 
 abbrev pub default_distance : ℕ
 default_distance = 0
+
+-- ---- turns
+
+-- the lane that a turn line names
+abbrev pub most_lane : ℕ
+most_lane = 2 ^ 32 - 1
+
+-- the length that it says
+abbrev pub most_length : ℕ
+most_length = 2 ^ 64 - 1

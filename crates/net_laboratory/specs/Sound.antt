@@ -3,7 +3,7 @@ use Rattle.std.specs.Prelude.{ℕ, ◌+◌, ◌^◌, List, [], ◌∷◌, ◌++�
 use Rattle.std.specs.Str.{bytes_eq}
 use Rattle.std.specs.List.{list_all, count_by}
 use Rattle.std.specs.Option.{option_map_or}
-use Rattle.or_base.specs.Limits.{is_between, is_node_name, is_interface_name, is_key, is_valid_pair}
+use Rattle.or_base.specs.Limits.{most_value_bytes, most_lifetime, most_metric, most_preference, is_between, is_node_name, is_interface_name, is_key, is_valid_pair}
 use Rattle.or_base.specs.declared.act.Act.{Act}
 use Rattle.or_base.specs.declared.act.Act.TheVariants as act
 use Rattle.or_base.specs.declared.database.PrefixEntry.{PrefixEntry}
@@ -14,7 +14,7 @@ use Rattle.net_laboratory.specs.declared.declared.NodeDecl.{NodeDecl}
 use Rattle.net_laboratory.specs.declared.declared.LinkDecl.{LinkDecl}
 use Rattle.net_laboratory.specs.declared.command.Command.{Command}
 use Rattle.net_laboratory.specs.declared.command.Command.TheVariants.{Settle, Tick, Set, Own, Disown, Sync, Restart, Up, Down, Script, Get, Drain, LinkDrain, Metric, Advertise, Withdraw, Aggregate, Ask}
-use Rattle.net_laboratory.specs.Limits.{most_nodes, most_failing_calls, last_failing_call, most_metric, most_links, most_links_of_node, most_delay, most_acts, most_preference, most_rounds, default_rounds, most_moment, most_aggregated_routes, most_settles, most_lines, most_turns}
+use Rattle.net_laboratory.specs.Limits.{most_nodes, most_failing_calls, last_failing_call, most_links, most_links_of_node, most_delay, most_acts, most_rounds, default_rounds, most_moment, most_aggregated_routes, most_settles, most_lines, most_turns}
 use Rattle.net_laboratory.specs.Scenario.{Laboratory, is_declared, is_end, is_interface, is_end_of}
 use Rattle.net_laboratory.specs.Amounts.{claims_of, keys_in, has_key_room, owners_in, has_other_owner, is_record_key, offers_in, has_offer_room, is_settle, settles_in, ends_in_settle, last_tick, is_later}
 
@@ -47,10 +47,10 @@ pub record Declarations : Type 0 where
   pub links : List LinkDecl
 
 abbrev pub is_lifetime : Option ℕ → Bool
-is_lifetime ttl = option_map_or (is_between 1 (2 ^ 40)) ttl true
+is_lifetime ttl = option_map_or (is_between 1 most_lifetime) ttl true
 
 abbrev pub is_value : List ℕ → Bool
-is_value value = nat_le (length value) 4096
+is_value value = nat_le (length value) most_value_bytes
 
 abbrev pub is_act : Act → Bool
 is_act (act.Late n) = is_between 1 most_delay n

@@ -9,17 +9,17 @@ use Rattle.std.specs.Slice.Iter.{iter_rest}
 use Rattle.std.specs.declared.iter.Zip.{Zip}
 use Rattle.net_laboratory.specs.declared.declared.NodeDecl.{NodeDecl}
 use Rattle.net_record.specs.declared.record.NodeMark.{NodeMark}
-use Rattle.net_report.specs.Report.{joined, routes_text}
+use Rattle.net_report.specs.Report.{with_commas, routes_text}
 
 -- texts, each with a comma before it
 abbrev pub texts_behind : List (List ℕ) → List ℕ
 texts_behind [] = []
 texts_behind (text ∷ texts) = (codes "," ++ text) ++ texts_behind texts
 
-joined_first : (text : List ℕ) (texts : List (List ℕ)) → joined (text ∷ texts) ≡ text ++ texts_behind texts
-joined_first text [] = sym (append-nil text)
-joined_first text (next ∷ texts) =
-    ap (λ rest. text ++ codes "," ++ rest) (joined_first next texts) ∙ append_assoc text (codes ",") (next ++ texts_behind texts)
+with_commas_first : (text : List ℕ) (texts : List (List ℕ)) → with_commas (text ∷ texts) ≡ text ++ texts_behind texts
+with_commas_first text [] = sym (append-nil text)
+with_commas_first text (next ∷ texts) =
+    ap (λ rest. text ++ codes "," ++ rest) (with_commas_first next texts) ∙ append_assoc text (codes ",") (next ++ texts_behind texts)
 
 pub texts_behind_more : (texts : List (List ℕ)) (i : ℕ) → i < length texts
     → texts_behind (drop i texts) ≡ (codes "," ++ get_or texts i []) ++ texts_behind (drop (i + 1) texts)
@@ -31,12 +31,12 @@ texts_behind_end texts i past = at_drop_all texts_behind texts i past
 pub ruleset text_steps = (texts_behind_more, texts_behind_end)
 
 -- the first text is written
-pub text_started : (texts others : List (List ℕ)) (old new first : List ℕ) → texts ≡ first ∷ others → new ≡ old ++ first
-    → new ++ texts_behind (drop 0 others) ≡ old ++ joined texts
-text_started texts others old new first split written =
+pub text_begins : (texts others : List (List ℕ)) (old new first : List ℕ) → texts ≡ first ∷ others → new ≡ old ++ first
+    → new ++ texts_behind (drop 0 others) ≡ old ++ with_commas texts
+text_begins texts others old new first split written =
     ap (λ text. text ++ texts_behind others) written
     ∙ append_assoc old first (texts_behind others)
-    ∙ ap (λ text. old ++ text) (sym (joined_first first others) ∙ ap joined (sym split))
+    ∙ ap (λ text. old ++ text) (sym (with_commas_first first others) ∙ ap with_commas (sym split))
 
 routes_of_no_nodes : (nodes : List NodeDecl) (marks : List NodeMark) → length nodes ≡ 0 → routes_text nodes marks ≡ []
 routes_of_no_nodes [] marks e = refl

@@ -89,21 +89,21 @@ stores_text (node ∷ nodes) (journal ∷ journals) (mark ∷ marks) moment =
 -- ---- routes
 
 -- texts joined by commas
-abbrev pub joined : List (List ℕ) → List ℕ
-joined [] = []
-joined (text ∷ []) = text
-joined (text ∷ next ∷ texts) = text ++ codes "," ++ joined (next ∷ texts)
+abbrev pub with_commas : List (List ℕ) → List ℕ
+with_commas [] = []
+with_commas (text ∷ []) = text
+with_commas (text ∷ next ∷ texts) = text ++ codes "," ++ with_commas (next ∷ texts)
 
-abbrev pub prefix_of : Prefix → List ℕ
-prefix_of p = prefix_text p.v6 p.bits p.len
+abbrev pub text_of_prefix : Prefix → List ℕ
+text_of_prefix p = prefix_text p.v6 p.bits p.len
 
 -- `<cost> <hops>`
 abbrev pub cost_and_hops : Route → List ℕ
-cost_and_hops r = decimal r.cost ++ codes " " ++ joined r.hops
+cost_and_hops r = decimal r.cost ++ codes " " ++ with_commas r.hops
 
 -- `route <prefix> <cost> <hops>`
 unfoldable pub route_line : Route → List ℕ
-route_line r = line (codes "route " ++ prefix_of r.prefix ++ codes " " ++ cost_and_hops r)
+route_line r = line (codes "route " ++ text_of_prefix r.prefix ++ codes " " ++ cost_and_hops r)
 
 -- `routes <node>`
 unfoldable pub routes_line : List ℕ → List ℕ
@@ -132,7 +132,7 @@ routes_text (node ∷ nodes) (mark ∷ marks) = node_routes_text node.name mark 
 -- `get <node> <key>` or `ask <node> <prefix>`
 abbrev pub question_text : List ℕ → Asked → List ℕ
 question_text node (asked.Key key) = codes "get " ++ node ++ codes " " ++ key
-question_text node (asked.Prefix prefix) = codes "ask " ++ node ++ codes " " ++ prefix_of prefix
+question_text node (asked.Prefix prefix) = codes "ask " ++ node ++ codes " " ++ text_of_prefix prefix
 
 -- `value <version> <originator> <hex> <ttl version>`, `route <cost> <hops>`, `none` or `behind <at>`
 abbrev pub told_text : Told → List ℕ

@@ -5,7 +5,7 @@ ghost use Rattle.or_base.specs.declared.asked.Told.TheVariants.{Value};
 ghost use Rattle.net_report.specs.Report.{answer_line, question_text, told_text};
 
 use crate::lines::hex_text;
-use crate::routes::{cost_and_hops, prefix_text};
+use crate::routes::{cost_and_hops, text_of_prefix};
 use net_record::AnswerDone;
 use or_base::{Asked, KvValue, Name, NoMemory, Told};
 
@@ -21,7 +21,7 @@ fn question_text(out: &mut String, node: &Name, asked: &Asked) -> Result<(), NoM
         }
         Asked::Prefix(prefix) => {
             write!(out, "ask {name} ")?;
-            prefix_text(out, prefix)?;
+            text_of_prefix(out, prefix)?;
         }
     }
     Ok(())

@@ -22,7 +22,7 @@ mod text;
 
 use crate::text::settles_text;
 use net_record::Record;
-use net_scenario::Scenario;
+use net_laboratory::Scenario;
 use or_base::NoMemory;
 use std::alloc::Global;
 

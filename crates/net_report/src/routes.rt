@@ -1,7 +1,7 @@
 //! The lines of routes, and what answers share with them.
 
 ghost use Rattle.std.specs.Prelude.{◌≡◌, ◌++◌, OnOk, string_bytes};
-ghost use Rattle.net_report.specs.Report.{cost_and_hops, fib_line, fib_word, joined, prefix_of, route_line, routes_line};
+ghost use Rattle.net_report.specs.Report.{cost_and_hops, fib_line, fib_word, with_commas, text_of_prefix, route_line, routes_line};
 
 use net_record::NodeMark;
 use or_base::{Name, NoMemory, Prefix, Route};
@@ -9,8 +9,8 @@ use or_prefix::print_prefix;
 use std::str;
 
 /// The prefix: its address, `/` and its length.
-pub(crate) fn prefix_text(out: &mut String, prefix: &Prefix) -> Result<(), NoMemory>
-    ensures { OnOk result (string_bytes out.new ≡ string_bytes out.old ++ prefix_of prefix.now) }
+pub(crate) fn text_of_prefix(out: &mut String, prefix: &Prefix) -> Result<(), NoMemory>
+    ensures { OnOk result (string_bytes out.new ≡ string_bytes out.old ++ text_of_prefix prefix.now) }
 {
     let text = print_prefix(*out.allocator(), prefix)?;
     match str::from_utf8(text.as_slice()) {
@@ -23,8 +23,8 @@ pub(crate) fn prefix_text(out: &mut String, prefix: &Prefix) -> Result<(), NoMem
 
 /// Interfaces, joined by commas.
 #[tactic(auto, using(crate::proofs::Hops::text_steps))]
-fn hops_text(out: &mut String, hops: &[Name]) -> Result<(), NoMemory>
-    ensures { OnOk result (string_bytes out.new ≡ string_bytes out.old ++ joined hops.now) }
+fn with_commas(out: &mut String, hops: &[Name]) -> Result<(), NoMemory>
+    ensures { OnOk result (string_bytes out.new ≡ string_bytes out.old ++ with_commas hops.now) }
 {
     if let Some((first, others)) = hops.split_first() {
         out.push_str(first.as_str())?;
@@ -42,7 +42,7 @@ pub(crate) fn cost_and_hops(out: &mut String, route: &Route) -> Result<(), NoMem
 {
     let cost = route.cost;
     write!(out, "{cost} ")?;
-    hops_text(out, route.hops.as_slice())?;
+    with_commas(out, route.hops.as_slice())?;
     Ok(())
 }
 
@@ -52,7 +52,7 @@ pub(crate) fn route_line(out: &mut String, route: &Route) -> Result<(), NoMemory
     ensures { OnOk result (string_bytes out.new ≡ string_bytes out.old ++ route_line route.now) }
 {
     out.push_str("route ")?;
-    prefix_text(out, &route.prefix)?;
+    text_of_prefix(out, &route.prefix)?;
     out.push_str(" ")?;
     cost_and_hops(out, route)?;
     out.push_str("\n")?;

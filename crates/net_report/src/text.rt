@@ -8,9 +8,9 @@ use crate::answers::answer_line;
 use crate::lines::{key_line, settle_line, store_line, sync_line, turn_line};
 use crate::routes::{fib_line, route_line, routes_line};
 use net_record::{AnswerDone, NodeMark, SettleDone};
-use net_scenario::{Command, Kind, NodeDecl, Show};
+use net_laboratory::{Command, Kind, NodeDecl, Show};
 use or_base::{
-    JournalEntry, Name, NoMemory, Route, Seq, SyncDone, TurnDone, held_keys, held_under,
+    JournalEntry, Name, NoMemory, Route, Seq, SyncDone, TurnDone, held_keys, holds,
 };
 
 /// A line for each key that the journal holds, in byte order.
@@ -18,7 +18,7 @@ fn held_lines(out: &mut String, journal: &[JournalEntry], moment: u64) -> Result
     ensures { OnOk result (string_bytes out.new ≡ string_bytes out.old ++ held_lines journal.now moment) }
 {
     for key in held_keys(*out.allocator(), journal)? {
-        if let Some(held) = held_under(journal, &key) {
+        if let Some(held) = holds(journal, &key) {
             key_line(out, &key, held.value, held.merged_at, moment)?;
         }
     }

@@ -5,15 +5,16 @@ use Rattle.std.specs.Str.{bytes_eq}
 use Rattle.std.proofs.lemmas.Bool.{true≢false, or_parts}
 use Rattle.serde_json.specs.Data.{Data}
 use Rattle.serde_json.specs.Find.{get}
-use Rattle.or_base.specs.Limits.{is_interface_name}
+use Rattle.or_base.specs.Limits.{most_node_name_bytes, most_interface_name_bytes, most_lifetime, most_metric, is_interface_name}
 use Rattle.net_fields.specs.declared.form.Form.TheVariants as form
 use Rattle.net_fields.specs.declared.word.Word.{Word}
 use Rattle.net_fields.specs.declared.word.Word.TheVariants as word
-use Rattle.net_fields.specs.Fields.{fields_of, needed, optional, metric, lifetime}
+use Rattle.net_fields.specs.Fields.{fields_of, needed_field, optional_field, metric, lifetime}
 use Rattle.net_fields.specs.Members.{text_at, number_at, number_or, kind_at, numbers_at}
 use Rattle.net_fields.specs.Objects.{is_contradictory}
 use Rattle.net_scenario.specs.declared.statement.Statement.{Statement}
 use Rattle.net_scenario.specs.declared.statement.Statement.TheVariants as says
+use Rattle.net_laboratory.specs.Limits.{most_nodes, most_failing_calls, last_failing_call, most_links, most_links_of_node, most_turns, default_metric}
 use Rattle.net_laboratory.specs.Scenario.{is_declared, is_end, is_interface}
 use Rattle.net_scenario.specs.Seen.{Seen, is_empty, admits, is_sound_so_far}
 use Rattle.net_laboratory.specs.Sound.{admits_node, admits_link, is_metric}
@@ -34,7 +35,7 @@ module _ (seen : Seen) (turns : Bool) (line : Line) (d : Data) where
   unfolding fields_of is_repeated admits
   lab n =
       none_unless seen.kind n.repeated
-      also number_if_any seen 1 (2 ^ 40) (get (codes "ttl") d) (fine seen turns line word.Lab d n 2 (optional (codes "ttl") lifetime) refl)
+      also number_if_any seen 1 most_lifetime (get (codes "ttl") d) (fine seen turns line word.Lab d n 2 (optional_field (codes "ttl") lifetime) refl)
 
   -- no command stands before a declaration
   no_command : (not (is_empty seen.commands) || not (is_empty seen.turns)) ≡ false → is_empty seen.commands ≡ true
@@ -43,9 +44,9 @@ module _ (seen : Seen) (turns : Bool) (line : Line) (d : Data) where
   node_admits : NoFault seen turns line word.Node d → admits_node seen.nodes (record { name = text_at (codes "name") d; faults = numbers_at (codes "faults") d }) ≡ true
   unfolding fields_of numbers_at is_repeated passes_limit admits_node
   node_admits n =
-      let name = name_needed seen 20 (get (codes "name") d) (fine seen turns line word.Node d n 1 (needed (codes "name") (form.Name 20)) refl) in
-      let faults = numbers_optional seen 64 1 500000 (get (codes "faults") d) (fine seen turns line word.Node d n 2 (optional (codes "faults") (form.Numbers 64 1 500000)) refl) in
-      below 64 (length seen.nodes) (or_parts (nat_le 64 (length seen.nodes)) _ (within_limit seen turns line d word.Node n)).0
+      let name = name_needed seen most_node_name_bytes (get (codes "name") d) (fine seen turns line word.Node d n 1 (needed_field (codes "name") (form.Name most_node_name_bytes)) refl) in
+      let faults = numbers_optional seen most_failing_calls 1 last_failing_call (get (codes "faults") d) (fine seen turns line word.Node d n 2 (optional_field (codes "faults") (form.Numbers most_failing_calls 1 last_failing_call)) refl) in
+      below most_nodes (length seen.nodes) (or_parts (nat_le most_nodes (length seen.nodes)) _ (within_limit seen turns line d word.Node n)).0
       also node_name (text_at (codes "name") d) name.0 name.1
       also ap not n.repeated
       also faults.0
@@ -58,39 +59,39 @@ module _ (seen : Seen) (turns : Bool) (line : Line) (d : Data) where
 
   end_a : NoFault seen turns line word.Link d → is_declared seen.nodes (text_at (codes "a") d) ≡ true
   unfolding fields_of
-  end_a n = node_needed seen (get (codes "a") d) (fine seen turns line word.Link d n 1 (needed (codes "a") form.Node) refl)
+  end_a n = node_needed seen (get (codes "a") d) (fine seen turns line word.Link d n 1 (needed_field (codes "a") form.Node) refl)
 
   end_b : NoFault seen turns line word.Link d → is_declared seen.nodes (text_at (codes "b") d) ≡ true
   unfolding fields_of
-  end_b n = node_needed seen (get (codes "b") d) (fine seen turns line word.Link d n 2 (needed (codes "b") form.Node) refl)
+  end_b n = node_needed seen (get (codes "b") d) (fine seen turns line word.Link d n 2 (needed_field (codes "b") form.Node) refl)
 
   apart : NoFault seen turns line word.Link d → bytes_eq (text_at (codes "a") d) (text_at (codes "b") d) ≡ false
-  unfolding is_contradictory
+  unfolding is_contradictory fields_of
   apart n = contradicts_not seen word.Link d n.bad
 
   named_a : SoundSeen seen → NoFault seen turns line word.Link d → is_interface_name (interface_a d) ≡ true
   unfolding fields_of
   named_a s n =
       interface_or seen (codes "if-" ++ text_at (codes "b") d) (get (codes "aif") d) (default_interface (text_at (codes "b") d) (s.names (text_at (codes "b") d) (end_b n)))
-      (fine seen turns line word.Link d n 3 (optional (codes "aif") (form.Name 24)) refl)
+      (fine seen turns line word.Link d n 3 (optional_field (codes "aif") (form.Name most_interface_name_bytes)) refl)
 
   named_b : SoundSeen seen → NoFault seen turns line word.Link d → is_interface_name (interface_b d) ≡ true
   unfolding fields_of
   named_b s n =
       interface_or seen (codes "if-" ++ text_at (codes "a") d) (get (codes "bif") d) (default_interface (text_at (codes "a") d) (s.names (text_at (codes "a") d) (end_a n)))
-      (fine seen turns line word.Link d n 4 (optional (codes "bif") (form.Name 24)) refl)
+      (fine seen turns line word.Link d n 4 (optional_field (codes "bif") (form.Name most_interface_name_bytes)) refl)
 
-  metric_a : NoFault seen turns line word.Link d → is_metric (small_or (codes "am") 1 d) ≡ true
+  metric_a : NoFault seen turns line word.Link d → is_metric (small_or (codes "am") default_metric d) ≡ true
   unfolding fields_of
   metric_a n =
-      small_between 1 (2 ^ 31 - 1) (number_or (codes "am") 1 d) refl
-      (number_optional seen 1 (2 ^ 31 - 1) 1 (get (codes "am") d) refl (fine seen turns line word.Link d n 5 (optional (codes "am") metric) refl))
+      small_between 1 most_metric (number_or (codes "am") default_metric d) refl
+      (number_optional seen 1 most_metric default_metric (get (codes "am") d) refl (fine seen turns line word.Link d n 5 (optional_field (codes "am") metric) refl))
 
-  metric_b : NoFault seen turns line word.Link d → is_metric (small_or (codes "bm") 1 d) ≡ true
+  metric_b : NoFault seen turns line word.Link d → is_metric (small_or (codes "bm") default_metric d) ≡ true
   unfolding fields_of
   metric_b n =
-      small_between 1 (2 ^ 31 - 1) (number_or (codes "bm") 1 d) refl
-      (number_optional seen 1 (2 ^ 31 - 1) 1 (get (codes "bm") d) refl (fine seen turns line word.Link d n 6 (optional (codes "bm") metric) refl))
+      small_between 1 most_metric (number_or (codes "bm") default_metric d) refl
+      (number_optional seen 1 most_metric default_metric (get (codes "bm") d) refl (fine seen turns line word.Link d n 6 (optional_field (codes "bm") metric) refl))
 
   new_interfaces : NoFault seen turns line word.Link d
       → (is_interface seen.links (text_at (codes "a") d) (interface_a d) ≡ false) × (is_interface seen.links (text_at (codes "b") d) (interface_b d) ≡ false)
@@ -98,15 +99,15 @@ module _ (seen : Seen) (turns : Bool) (line : Line) (d : Data) where
   new_interfaces n = or_parts (is_interface seen.links (text_at (codes "a") d) (interface_a d)) (is_interface seen.links (text_at (codes "b") d) (interface_b d)) n.repeated
 
   link_room : NoFault seen turns line word.Link d
-      → (nat_lt (length seen.links) 256 ≡ true) × (nat_lt (count_by (is_end (text_at (codes "a") d)) seen.links) 24 ≡ true) × (nat_lt (count_by (is_end (text_at (codes "b") d)) seen.links) 24 ≡ true)
+      → (nat_lt (length seen.links) most_links ≡ true) × (nat_lt (count_by (is_end (text_at (codes "a") d)) seen.links) most_links_of_node ≡ true) × (nat_lt (count_by (is_end (text_at (codes "b") d)) seen.links) most_links_of_node ≡ true)
   unfolding passes_limit is_full_at
   link_room n =
-      let all = nat_le 256 (length seen.links) in
-      let a = nat_le 24 (count_by (is_end (text_at (codes "a") d)) seen.links) in
-      let b = nat_le 24 (count_by (is_end (text_at (codes "b") d)) seen.links) in
+      let all = nat_le most_links (length seen.links) in
+      let a = nat_le most_links_of_node (count_by (is_end (text_at (codes "a") d)) seen.links) in
+      let b = nat_le most_links_of_node (count_by (is_end (text_at (codes "b") d)) seen.links) in
       let p = or_parts (all || a) b (within_limit seen turns line d word.Link n) in
       let q = or_parts all a p.0 in
-      (below 256 (length seen.links) q.0, below 24 (count_by (is_end (text_at (codes "a") d)) seen.links) q.1, below 24 (count_by (is_end (text_at (codes "b") d)) seen.links) p.1)
+      (below most_links (length seen.links) q.0, below most_links_of_node (count_by (is_end (text_at (codes "a") d)) seen.links) q.1, below most_links_of_node (count_by (is_end (text_at (codes "b") d)) seen.links) p.1)
 
   link_admits : SoundSeen seen → NoFault seen turns line word.Link d → admits_link seen.nodes seen.links (link_of d) ≡ true
   unfolding link_of admits_link
@@ -122,7 +123,7 @@ module _ (seen : Seen) (turns : Bool) (line : Line) (d : Data) where
 
   turn : NoFault seen turns line word.Turn d → is_some seen.kind ≡ true → admits seen (says.Turn (record { lane = small_or (codes "lane") 0 d; at = number_or (codes "at") 0 d })) ≡ true
   unfolding passes_limit admits
-  turn n opened = opened also below 500000 (length seen.turns) (within_limit seen turns line d word.Turn n)
+  turn n opened = opened also below most_turns (length seen.turns) (within_limit seen turns line d word.Turn n)
 
   -- only the line of the laboratory may stand first
   opened_at : (w : Word) → (w ≡ word.Lab → ⊥) → (is_some seen.kind ≡ true) ⊎ (w ≡ word.Lab) → is_some seen.kind ≡ true

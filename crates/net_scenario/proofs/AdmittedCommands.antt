@@ -4,23 +4,24 @@ use Rattle.std.specs.Option.{option_map_or}
 use Rattle.std.proofs.lemmas.Bool.{true≢false, and_parts, and_from, or_parts, ltb-true}
 use Rattle.serde_json.specs.Data.{Data}
 use Rattle.serde_json.specs.Find.{get}
-use Rattle.or_base.specs.Limits.{is_between, is_key, is_valid_value, is_valid_pair}
+use Rattle.or_base.specs.Limits.{most_node_name_bytes, most_version, most_ttl_version, most_lifetime, most_metric, most_preference, is_between, is_key, is_valid_value, is_valid_pair}
 use Rattle.or_base.specs.declared.kind.Kind.{Kind}
 use Rattle.or_base.specs.declared.kind.Kind.TheVariants as kind
 use Rattle.net_fields.specs.declared.form.Form.TheVariants as form
 use Rattle.net_fields.specs.declared.word.Word.{Word}
 use Rattle.net_fields.specs.declared.word.Word.TheVariants as word
-use Rattle.net_fields.specs.Fields.{fields_of, needed, optional, metric, preference, lifetime}
+use Rattle.net_fields.specs.Fields.{fields_of, needed_field, optional_field, metric, preference, lifetime}
 use Rattle.net_fields.specs.Members.{text_at, number_at, number_or, flag_at, show_at, prefix_at, value_at, acts_at}
 use Rattle.net_laboratory.specs.declared.command.Command.{Command}
 use Rattle.net_laboratory.specs.declared.command.Command.TheVariants.{Settle, Tick, Set, Own, Disown, Sync, Restart, Up, Down, Script, Get, Drain, LinkDrain, Metric, Advertise, Withdraw, Aggregate, Ask}
 use Rattle.net_scenario.specs.declared.statement.Statement.TheVariants as says
+use Rattle.net_laboratory.specs.Limits.{most_lines, most_links, most_settles, most_rounds, default_rounds, most_moment, most_aggregated_routes, default_path, default_source, default_distance}
 use Rattle.net_laboratory.specs.Scenario.{is_declared, is_end_of}
-use Rattle.net_laboratory.specs.Limits.{keys_in, has_key_room, owners_in, has_other_owner, is_record_key, offers_in, has_offer_room, settles_in}
+use Rattle.net_laboratory.specs.Amounts.{keys_in, has_key_room, owners_in, has_other_owner, is_record_key, offers_in, has_offer_room, settles_in}
 use Rattle.net_scenario.specs.Seen.{Seen, kind_in, declared_by, is_empty, admits}
-use Rattle.net_laboratory.specs.Sound.{is_within, is_for_full, belongs, is_in_time, has_one_owner, has_room, lines_before, admits_command, is_lifetime, is_value, are_acts, is_preference, is_entry}
+use Rattle.net_laboratory.specs.Sound.{has_sound_fields, is_routing_command, belongs, is_in_time, has_one_owner, has_room, lines_before, admits_command, is_lifetime, is_value, are_acts, is_preference, is_entry}
 use Rattle.net_scenario.specs.Conditions.{is_full, is_turn, is_too_many, passes_limit, is_misplaced, has_two_owners}
-use Rattle.net_scenario.specs.Statement.{small_or, link_at, node_at, key_at, prefix_or_any, any_prefix, pair_of, entry_of}
+use Rattle.net_scenario.specs.Statement.{small_or, link_at, node_at, key_at, prefix_or_any, any_prefix, pair_of, prefix_entry_of}
 use Rattle.net_scenario.specs.Faults.{Line}
 use Rattle.net_scenario.proofs.AdmittedRows.{NoFault}
 use Rattle.net_scenario.proofs.AdmittedForms.{from_not, below, small, small_between, not_there, number_needed, number_optional, number_if_any, node_needed, key_needed, text_optional, hex_optional, link_needed, prefix_needed, acts_needed}
@@ -36,7 +37,7 @@ first_false : (t x : Bool) → t ≡ false → (not t && x) ≡ false → x ≡ 
 first_false true x t e = absurd (true≢false t)
 first_false false x t e = e
 
-belongs_all : (k : Kind) (c : Command) → is_for_full c ≡ false → belongs k c ≡ true
+belongs_all : (k : Kind) (c : Command) → is_routing_command c ≡ false → belongs k c ≡ true
 belongs_all kind.Full c e = refl
 belongs_all kind.Stores c e = ap not e
 
@@ -48,51 +49,51 @@ upper : (most n : ℕ) → is_between 0 most n ≡ true → nat_le n most ≡ tr
 upper most n e = (and_parts (nat_le 0 n) (nat_le n most) e).1
 
 module _ (seen : Seen) (turns : Bool) (line : Line) (d : Data) where
-  pub lines_left : (w : Word) → is_turn w ≡ false → NoFault seen turns line w d → nat_lt (lines_before seen.nodes seen.links seen.commands) 10000 ≡ true
+  pub lines_left : (w : Word) → is_turn w ≡ false → NoFault seen turns line w d → nat_lt (lines_before seen.nodes seen.links seen.commands) most_lines ≡ true
   unfolding is_too_many
   lines_left w e n =
-      below 10000 (lines_before seen.nodes seen.links seen.commands)
-      (first_false (is_turn w) _ e (or_parts (not (is_turn w) && nat_le 10000 (lines_before seen.nodes seen.links seen.commands)) (passes_limit seen w d) n.many).0)
+      below most_lines (lines_before seen.nodes seen.links seen.commands)
+      (first_false (is_turn w) _ e (or_parts (not (is_turn w) && nat_le most_lines (lines_before seen.nodes seen.links seen.commands)) (passes_limit seen w d) n.many).0)
 
   pub within_limit : (w : Word) → NoFault seen turns line w d → passes_limit seen w d ≡ false
   unfolding is_too_many
-  within_limit w n = (or_parts (not (is_turn w) && nat_le 10000 (lines_before seen.nodes seen.links seen.commands)) (passes_limit seen w d) n.many).1
+  within_limit w n = (or_parts (not (is_turn w) && nat_le most_lines (lines_before seen.nodes seen.links seen.commands)) (passes_limit seen w d) n.many).1
 
-  command : (c : Command) → is_some seen.kind ≡ true → is_within (declared_by seen) c ≡ true → belongs (kind_in seen) c ≡ true → is_in_time seen.commands c ≡ true
+  command : (c : Command) → is_some seen.kind ≡ true → has_sound_fields (declared_by seen) c ≡ true → belongs (kind_in seen) c ≡ true → is_in_time seen.commands c ≡ true
       → has_one_owner (declared_by seen) seen.commands c ≡ true → has_room (declared_by seen) seen.commands c ≡ true
-      → nat_lt (lines_before seen.nodes seen.links seen.commands) 10000 ≡ true → admits seen (says.Command c) ≡ true
+      → nat_lt (lines_before seen.nodes seen.links seen.commands) most_lines ≡ true → admits seen (says.Command c) ≡ true
   unfolding admits admits_command
   command c opened within belong time owner room lines = opened also (within also belong also time also owner also room also lines)
 
   -- a command that every laboratory has, and that nothing else limits
-  plain : (w : Word) (c : Command) → is_some seen.kind ≡ true → is_turn w ≡ false → NoFault seen turns line w d → is_for_full c ≡ false → is_within (declared_by seen) c ≡ true
+  plain : (w : Word) (c : Command) → is_some seen.kind ≡ true → is_turn w ≡ false → NoFault seen turns line w d → is_routing_command c ≡ false → has_sound_fields (declared_by seen) c ≡ true
       → is_in_time seen.commands c ≡ true → has_one_owner (declared_by seen) seen.commands c ≡ true → has_room (declared_by seen) seen.commands c ≡ true
       → admits seen (says.Command c) ≡ true
   plain w c opened t n all within time owner room = command c opened within (belongs_all (kind_in seen) c all) time owner room (lines_left w t n)
 
   -- a command of full laboratories
   full : (w : Word) (c : Command) → is_some seen.kind ≡ true → is_turn w ≡ false → NoFault seen turns line w d → (not (is_full (kind_in seen)) || not (is_empty seen.turns)) ≡ false
-      → is_within (declared_by seen) c ≡ true
+      → has_sound_fields (declared_by seen) c ≡ true
       → is_in_time seen.commands c ≡ true → has_one_owner (declared_by seen) seen.commands c ≡ true → has_room (declared_by seen) seen.commands c ≡ true
       → admits seen (says.Command c) ≡ true
   full w c opened t n only within time owner room = command c opened within (belongs_full (kind_in seen) c (not (is_empty seen.turns)) only) time owner room (lines_left w t n)
 
   -- ---- fields
 
-  node : (w : Word) → NoFault seen turns line w d → slice_get (fields_of w) 1 ≡ Some (needed (codes "node") form.Node) → is_declared seen.nodes (node_at d) ≡ true
-  node w n at = node_needed seen (get (codes "node") d) (fine seen turns line w d n 1 (needed (codes "node") form.Node) at)
+  node : (w : Word) → NoFault seen turns line w d → slice_get (fields_of w) 1 ≡ Some (needed_field (codes "node") form.Node) → is_declared seen.nodes (node_at d) ≡ true
+  node w n at = node_needed seen (get (codes "node") d) (fine seen turns line w d n 1 (needed_field (codes "node") form.Node) at)
 
-  key : (w : Word) → NoFault seen turns line w d → slice_get (fields_of w) 2 ≡ Some (needed (codes "key") form.Key) → is_key (key_at d) ≡ true
-  key w n at = key_needed seen (get (codes "key") d) (fine seen turns line w d n 2 (needed (codes "key") form.Key) at)
+  key : (w : Word) → NoFault seen turns line w d → slice_get (fields_of w) 2 ≡ Some (needed_field (codes "key") form.Key) → is_key (key_at d) ≡ true
+  key w n at = key_needed seen (get (codes "key") d) (fine seen turns line w d n 2 (needed_field (codes "key") form.Key) at)
 
-  link : (w : Word) (k : ℕ) → NoFault seen turns line w d → slice_get (fields_of w) k ≡ Some (needed (codes "link") form.Link)
+  link : (w : Word) (k : ℕ) → NoFault seen turns line w d → slice_get (fields_of w) k ≡ Some (needed_field (codes "link") form.Link)
       → nat_lt (number_or (codes "link") 0 d) (length seen.links) ≡ true
-  link w k n at = link_needed seen (get (codes "link") d) (fine seen turns line w d n k (needed (codes "link") form.Link) at)
+  link w k n at = link_needed seen (get (codes "link") d) (fine seen turns line w d n k (needed_field (codes "link") form.Link) at)
 
   -- a declared link's number has 32 bits
   link_same : SoundSeen seen → nat_lt (number_or (codes "link") 0 d) (length seen.links) ≡ true → link_at d ≡ number_or (codes "link") 0 d
   link_same s e =
-      let few : length seen.links ≤ 256 = s.links in
+      let few : length seen.links ≤ most_links = s.links in
       let h : number_or (codes "link") 0 d < length seen.links = ltb-true (number_or (codes "link") 0 d) (length seen.links) e in
       small (number_or (codes "link") 0 d) (omega arith)
 
@@ -103,40 +104,40 @@ module _ (seen : Seen) (turns : Bool) (line : Line) (d : Data) where
       → not (is_end_of seen.links name (number_or (codes "link") 0 d)) ≡ false → is_end_of seen.links name (link_at d) ≡ true
   link_end s name e not_end = subst (λ n. is_end_of seen.links name n ≡ true) (sym (link_same s e)) (from_not _ not_end)
 
-  value : (w : Word) (k : ℕ) → NoFault seen turns line w d → slice_get (fields_of w) k ≡ Some (optional (codes "hex") form.Hex)
-      → slice_get (fields_of w) (k + 1) ≡ Some (optional (codes "text") form.Text) → is_value (value_at d) ≡ true
+  value : (w : Word) (k : ℕ) → NoFault seen turns line w d → slice_get (fields_of w) k ≡ Some (optional_field (codes "hex") form.Hex)
+      → slice_get (fields_of w) (k + 1) ≡ Some (optional_field (codes "text") form.Text) → is_value (value_at d) ≡ true
   value w k n hex text =
-      short_value d (hex_optional seen (get (codes "hex") d) (fine seen turns line w d n k (optional (codes "hex") form.Hex) hex))
-      (text_optional seen (get (codes "text") d) (fine seen turns line w d n (k + 1) (optional (codes "text") form.Text) text))
+      short_value d (hex_optional seen (get (codes "hex") d) (fine seen turns line w d n k (optional_field (codes "hex") form.Hex) hex))
+      (text_optional seen (get (codes "text") d) (fine seen turns line w d n (k + 1) (optional_field (codes "text") form.Text) text))
 
-  ttl : (w : Word) (k : ℕ) → NoFault seen turns line w d → slice_get (fields_of w) k ≡ Some (optional (codes "ttl") lifetime) → is_lifetime (number_at (codes "ttl") d) ≡ true
-  ttl w k n at = number_if_any seen 1 (2 ^ 40) (get (codes "ttl") d) (fine seen turns line w d n k (optional (codes "ttl") lifetime) at)
+  ttl : (w : Word) (k : ℕ) → NoFault seen turns line w d → slice_get (fields_of w) k ≡ Some (optional_field (codes "ttl") lifetime) → is_lifetime (number_at (codes "ttl") d) ≡ true
+  ttl w k n at = number_if_any seen 1 most_lifetime (get (codes "ttl") d) (fine seen turns line w d n k (optional_field (codes "ttl") lifetime) at)
 
   -- ---- each command
 
-  pub settle : NoFault seen turns line word.Settle d → is_some seen.kind ≡ true → admits seen (says.Command (Settle (number_or (codes "rounds") 1000 d) (show_at (codes "show") d))) ≡ true
-  unfolding fields_of is_within passes_limit
+  pub settle : NoFault seen turns line word.Settle d → is_some seen.kind ≡ true → admits seen (says.Command (Settle (number_or (codes "rounds") default_rounds d) (show_at (codes "show") d))) ≡ true
+  unfolding fields_of has_sound_fields passes_limit
   settle n opened =
       plain word.Settle _ opened refl n refl
-      (number_optional seen 1 100000 1000 (get (codes "rounds") d) refl (fine seen turns line word.Settle d n 1 (optional (codes "rounds") (form.Number 1 100000)) refl))
-      refl refl (below 1000 (settles_in seen.commands) (within_limit word.Settle n))
+      (number_optional seen 1 most_rounds default_rounds (get (codes "rounds") d) refl (fine seen turns line word.Settle d n 1 (optional_field (codes "rounds") (form.Number 1 most_rounds)) refl))
+      refl refl (below most_settles (settles_in seen.commands) (within_limit word.Settle n) also refl also refl)
 
   pub tick : NoFault seen turns line word.Tick d → is_some seen.kind ≡ true → admits seen (says.Command (Tick (number_or (codes "to") 0 d))) ≡ true
-  unfolding fields_of is_within
+  unfolding fields_of has_sound_fields
   tick n opened =
       plain word.Tick _ opened refl n refl
-      (upper (2 ^ 40) (number_or (codes "to") 0 d) (number_needed seen 0 (2 ^ 40) 0 (get (codes "to") d) (fine seen turns line word.Tick d n 1 (needed (codes "to") (form.Number 0 (2 ^ 40))) refl)))
+      (upper most_moment (number_or (codes "to") 0 d) (number_needed seen 0 most_moment 0 (get (codes "to") d) (fine seen turns line word.Tick d n 1 (needed_field (codes "to") (form.Number 0 most_moment)) refl)))
       (from_not _ (early_not seen word.Tick d n.bad)) refl refl
 
   -- a value's originator, lengths and numbers
   valid_value : SoundSeen seen → NoFault seen turns line word.Set d → is_valid_value (pair_of d).value ≡ true
   unfolding fields_of pair_of is_valid_value
   valid_value s n =
-      name_or seen (node_at d) (get (codes "originator") d) (s.names (node_at d) (node word.Set n refl)) (fine seen turns line word.Set d n 6 (optional (codes "originator") (form.Name 20)) refl)
+      name_or seen (node_at d) (get (codes "originator") d) (s.names (node_at d) (node word.Set n refl)) (fine seen turns line word.Set d n 6 (optional_field (codes "originator") (form.Name most_node_name_bytes)) refl)
       also value word.Set 4 n refl refl
-      also number_needed seen 1 (2 ^ 62) 0 (get (codes "version") d) (fine seen turns line word.Set d n 3 (needed (codes "version") (form.Number 1 (2 ^ 62))) refl)
+      also number_needed seen 1 most_version 0 (get (codes "version") d) (fine seen turns line word.Set d n 3 (needed_field (codes "version") (form.Number 1 most_version)) refl)
       also ttl word.Set 7 n refl
-      also upper (2 ^ 62) (number_or (codes "ttlv") 0 d) (number_optional seen 0 (2 ^ 62) 0 (get (codes "ttlv") d) refl (fine seen turns line word.Set d n 8 (optional (codes "ttlv") (form.Number 0 (2 ^ 62))) refl))
+      also upper most_ttl_version (number_or (codes "ttlv") 0 d) (number_optional seen 0 most_ttl_version 0 (get (codes "ttlv") d) refl (fine seen turns line word.Set d n 8 (optional_field (codes "ttlv") (form.Number 0 most_ttl_version)) refl))
 
   valid_pair : SoundSeen seen → NoFault seen turns line word.Set d → is_valid_pair (pair_of d) ≡ true
   unfolding fields_of pair_of is_valid_pair
@@ -147,8 +148,8 @@ module _ (seen : Seen) (turns : Bool) (line : Line) (d : Data) where
   key_room_set n = from_not _ (within_limit word.Set n)
 
   pub set : SoundSeen seen → NoFault seen turns line word.Set d → is_some seen.kind ≡ true → admits seen (says.Command (Set (node_at d) (pair_of d))) ≡ true
-  unfolding fields_of is_within
-  set s n opened = plain word.Set _ opened refl n refl (node word.Set n refl also valid_pair s n) refl refl (key_room_set n)
+  unfolding fields_of has_sound_fields
+  set s n opened = plain word.Set _ opened refl n refl (node word.Set n refl also valid_pair s n) refl refl (key_room_set n also refl)
 
   one_owner : NoFault seen turns line word.Own d → (not (has_other_owner (owners_in seen.commands) (key_at d) (node_at d)) && not (is_record_key (kind_in seen) seen.nodes (key_at d))) ≡ true
   unfolding has_two_owners
@@ -157,63 +158,63 @@ module _ (seen : Seen) (turns : Bool) (line : Line) (d : Data) where
       ap not parts.0 also ap not parts.1
 
   pub own : NoFault seen turns line word.Own d → is_some seen.kind ≡ true → admits seen (says.Command (Own (node_at d) (key_at d) (value_at d) (number_at (codes "ttl") d))) ≡ true
-  unfolding fields_of is_within passes_limit
+  unfolding fields_of has_sound_fields passes_limit
   own n opened =
       plain word.Own _ opened refl n refl (node word.Own n refl also key word.Own n refl also value word.Own 3 n refl refl also ttl word.Own 5 n refl)
-      refl (one_owner n) (from_not _ (within_limit word.Own n))
+      refl (one_owner n) (from_not _ (within_limit word.Own n) also refl)
 
   pub disown : NoFault seen turns line word.Disown d → is_some seen.kind ≡ true → admits seen (says.Command (Disown (node_at d) (key_at d))) ≡ true
-  unfolding fields_of is_within
+  unfolding fields_of has_sound_fields
   disown n opened = plain word.Disown _ opened refl n refl (node word.Disown n refl also key word.Disown n refl) refl refl refl
 
   pub sync : SoundSeen seen → NoFault seen turns line word.Sync d → is_some seen.kind ≡ true → admits seen (says.Command (Sync (node_at d) (link_at d))) ≡ true
-  unfolding fields_of is_within
+  unfolding fields_of has_sound_fields
   sync s n opened =
       plain word.Sync _ opened refl n refl
       (node word.Sync n refl also link_end s (node_at d) (link word.Sync 2 n refl) (ends_not seen word.Sync d n.unknown))
       refl refl refl
 
   pub restart : NoFault seen turns line word.Restart d → is_some seen.kind ≡ true → admits seen (says.Command (Restart (node_at d))) ≡ true
-  unfolding fields_of is_within
+  unfolding fields_of has_sound_fields
   restart n opened = plain word.Restart _ opened refl n refl (node word.Restart n refl) refl refl refl
 
   pub up : SoundSeen seen → NoFault seen turns line word.Up d → is_some seen.kind ≡ true → admits seen (says.Command (Up (link_at d))) ≡ true
-  unfolding fields_of is_within
+  unfolding fields_of has_sound_fields
   up s n opened = plain word.Up _ opened refl n refl (link_below s (link word.Up 1 n refl)) refl refl refl
 
   pub down : SoundSeen seen → NoFault seen turns line word.Down d → is_some seen.kind ≡ true → admits seen (says.Command (Down (link_at d))) ≡ true
-  unfolding fields_of is_within
+  unfolding fields_of has_sound_fields
   down s n opened = plain word.Down _ opened refl n refl (link_below s (link word.Down 1 n refl)) refl refl refl
 
   acts : NoFault seen turns line word.Script d → are_acts (acts_at (codes "acts") d) ≡ true
   unfolding fields_of acts_at
-  acts n = acts_needed seen (get (codes "acts") d) (fine seen turns line word.Script d n 3 (needed (codes "acts") form.Acts) refl)
+  acts n = acts_needed seen (get (codes "acts") d) (fine seen turns line word.Script d n 3 (needed_field (codes "acts") form.Acts) refl)
 
   pub script : SoundSeen seen → NoFault seen turns line word.Script d → is_some seen.kind ≡ true
       → admits seen (says.Command (Script (link_at d) (text_at (codes "from") d) (acts_at (codes "acts") d))) ≡ true
-  unfolding fields_of is_within
+  unfolding fields_of has_sound_fields
   script s n opened =
       plain word.Script _ opened refl n refl
       (
-      node_needed seen (get (codes "from") d) (fine seen turns line word.Script d n 2 (needed (codes "from") form.Node) refl)
+      node_needed seen (get (codes "from") d) (fine seen turns line word.Script d n 2 (needed_field (codes "from") form.Node) refl)
       also link_end s (text_at (codes "from") d) (link word.Script 1 n refl) (ends_not seen word.Script d n.unknown)
       also acts n
       )
       refl refl refl
 
   pub get_key : NoFault seen turns line word.Get d → is_some seen.kind ≡ true → admits seen (says.Command (Get (node_at d) (key_at d))) ≡ true
-  unfolding fields_of is_within
+  unfolding fields_of has_sound_fields
   get_key n opened = plain word.Get _ opened refl n refl (node word.Get n refl also key word.Get n refl) refl refl refl
 
   -- ---- the commands of full laboratories
 
   pub drain : NoFault seen turns line word.Drain d → is_some seen.kind ≡ true → admits seen (says.Command (Drain (node_at d) (flag_at (codes "on") d))) ≡ true
-  unfolding fields_of is_within is_misplaced
+  unfolding fields_of has_sound_fields is_misplaced
   drain n opened = full word.Drain _ opened refl n n.misplaced (node word.Drain n refl) refl refl refl
 
   pub link_drain : SoundSeen seen → NoFault seen turns line word.LinkDrain d → is_some seen.kind ≡ true
       → admits seen (says.Command (LinkDrain (node_at d) (link_at d) (flag_at (codes "on") d))) ≡ true
-  unfolding fields_of is_within is_misplaced
+  unfolding fields_of has_sound_fields is_misplaced
   link_drain s n opened =
       full word.LinkDrain _ opened refl n n.misplaced
       (node word.LinkDrain n refl also link_end s (node_at d) (link word.LinkDrain 2 n refl) (ends_not seen word.LinkDrain d n.unknown))
@@ -221,65 +222,65 @@ module _ (seen : Seen) (turns : Bool) (line : Line) (d : Data) where
 
   pub link_metric : SoundSeen seen → NoFault seen turns line word.Metric d → is_some seen.kind ≡ true
       → admits seen (says.Command (Metric (node_at d) (link_at d) (small_or (codes "metric") 0 d))) ≡ true
-  unfolding fields_of is_within is_misplaced
+  unfolding fields_of has_sound_fields is_misplaced
   link_metric s n opened =
       full word.Metric _ opened refl n n.misplaced
       (
       node word.Metric n refl
       also link_end s (node_at d) (link word.Metric 2 n refl) (ends_not seen word.Metric d n.unknown)
-      also small_between 1 (2 ^ 31 - 1) (number_or (codes "metric") 0 d) refl
-      (number_needed seen 1 (2 ^ 31 - 1) 0 (get (codes "metric") d) (fine seen turns line word.Metric d n 3 (needed (codes "metric") metric) refl))
+      also small_between 1 most_metric (number_or (codes "metric") 0 d) refl
+      (number_needed seen 1 most_metric 0 (get (codes "metric") d) (fine seen turns line word.Metric d n 3 (needed_field (codes "metric") metric) refl))
       )
       refl refl refl
 
   -- the prefix is one that the node may have
-  prefix_room : (w : Word) → NoFault seen turns line w d → slice_get (fields_of w) 2 ≡ Some (needed (codes "prefix") form.Prefix)
+  prefix_room : (w : Word) → NoFault seen turns line w d → slice_get (fields_of w) 2 ≡ Some (needed_field (codes "prefix") form.Prefix)
       → option_map_or (λ prefix. not (has_offer_room (offers_in seen.commands) (node_at d) prefix)) (prefix_at (codes "prefix") d) false ≡ false
       → has_offer_room (offers_in seen.commands) (node_at d) (prefix_or_any d) ≡ true
   prefix_room w n at room =
       from_not _
       (
       not_there (λ prefix. not (has_offer_room (offers_in seen.commands) (node_at d) prefix)) (prefix_at (codes "prefix") d) any_prefix
-      (prefix_needed seen (get (codes "prefix") d) (fine seen turns line w d n 2 (needed (codes "prefix") form.Prefix) at)) room
+      (prefix_needed seen (get (codes "prefix") d) (fine seen turns line w d n 2 (needed_field (codes "prefix") form.Prefix) at)) room
       )
 
-  preferred : (k : ℕ) (name : List ℕ) (default : ℕ) → NoFault seen turns line word.Advertise d → slice_get (fields_of word.Advertise) k ≡ Some (optional name preference)
-      → is_between 0 (2 ^ 31 - 1) default ≡ true → is_preference (small_or name default d) ≡ true
+  preferred : (k : ℕ) (name : List ℕ) (default : ℕ) → NoFault seen turns line word.Advertise d → slice_get (fields_of word.Advertise) k ≡ Some (optional_field name preference)
+      → is_between 0 most_preference default ≡ true → is_preference (small_or name default d) ≡ true
   preferred k name default n at h =
-      upper (2 ^ 31 - 1) (small_or name default d)
-      (small_between 0 (2 ^ 31 - 1) (number_or name default d) refl
-      (number_optional seen 0 (2 ^ 31 - 1) default (get name d) h (fine seen turns line word.Advertise d n k (optional name preference) at)))
+      upper most_preference (small_or name default d)
+      (small_between 0 most_preference (number_or name default d) refl
+      (number_optional seen 0 most_preference default (get name d) h (fine seen turns line word.Advertise d n k (optional_field name preference) at)))
 
-  preferences : NoFault seen turns line word.Advertise d → is_entry (entry_of d) ≡ true
-  unfolding fields_of entry_of
+  preferences : NoFault seen turns line word.Advertise d → is_entry (prefix_entry_of d) ≡ true
+  unfolding fields_of prefix_entry_of
   preferences n =
-      preferred 3 (codes "path") 1000 n refl refl also preferred 4 (codes "source") 100 n refl refl also preferred 5 (codes "distance") 0 n refl refl
+      preferred 3 (codes "path") default_path n refl refl also preferred 4 (codes "source") default_source n refl refl also preferred 5 (codes "distance") default_distance n refl refl
 
-  offer_room : NoFault seen turns line word.Advertise d → has_offer_room (offers_in seen.commands) (node_at d) (entry_of d).prefix ≡ true
-  unfolding fields_of passes_limit entry_of
+  offer_room : NoFault seen turns line word.Advertise d → has_offer_room (offers_in seen.commands) (node_at d) (prefix_entry_of d).prefix ≡ true
+  unfolding fields_of passes_limit prefix_entry_of
   offer_room n = prefix_room word.Advertise n refl (within_limit word.Advertise n)
 
-  pub advertise : NoFault seen turns line word.Advertise d → is_some seen.kind ≡ true → admits seen (says.Command (Advertise (node_at d) (entry_of d))) ≡ true
-  unfolding fields_of is_within is_misplaced
+  pub advertise : NoFault seen turns line word.Advertise d → is_some seen.kind ≡ true → admits seen (says.Command (Advertise (node_at d) (prefix_entry_of d))) ≡ true
+  unfolding fields_of has_sound_fields is_misplaced
   advertise n opened =
       full word.Advertise _ opened refl n n.misplaced (node word.Advertise n refl also preferences n) refl refl (offer_room n)
 
   pub withdraw : NoFault seen turns line word.Withdraw d → is_some seen.kind ≡ true → admits seen (says.Command (Withdraw (node_at d) (prefix_or_any d))) ≡ true
-  unfolding fields_of is_within is_misplaced
+  unfolding fields_of has_sound_fields is_misplaced
   withdraw n opened = full word.Withdraw _ opened refl n n.misplaced (node word.Withdraw n refl) refl refl refl
 
   pub aggregate : NoFault seen turns line word.Aggregate d → is_some seen.kind ≡ true
       → admits seen (says.Command (Aggregate (node_at d) (prefix_or_any d) (small_or (codes "min") 0 d))) ≡ true
-  unfolding fields_of is_within is_misplaced passes_limit
+  unfolding fields_of has_sound_fields is_misplaced passes_limit
   aggregate n opened =
       full word.Aggregate _ opened refl n n.misplaced
       (
       node word.Aggregate n refl
-      also small_between 1 1000 (number_or (codes "min") 0 d) refl
-      (number_needed seen 1 1000 0 (get (codes "min") d) (fine seen turns line word.Aggregate d n 3 (needed (codes "min") (form.Number 1 1000)) refl))
+      also small_between 1 most_aggregated_routes (number_or (codes "min") 0 d) refl
+      (number_needed seen 1 most_aggregated_routes 0 (get (codes "min") d) (fine seen turns line word.Aggregate d n 3 (needed_field (codes "min") (form.Number 1 most_aggregated_routes)) refl))
       )
       refl refl (prefix_room word.Aggregate n refl (within_limit word.Aggregate n))
 
   pub ask : NoFault seen turns line word.Ask d → is_some seen.kind ≡ true → admits seen (says.Command (Ask (node_at d) (prefix_or_any d))) ≡ true
-  unfolding fields_of is_within is_misplaced
+  unfolding fields_of has_sound_fields is_misplaced
   ask n opened = full word.Ask _ opened refl n n.misplaced (node word.Ask n refl) refl refl refl

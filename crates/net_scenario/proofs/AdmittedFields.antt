@@ -7,16 +7,18 @@ use Rattle.std.proofs.lemmas.Bool.{true≢false, and_parts, and_from, or_parts, 
 use Rattle.std.proofs.lemmas.List.{length_push}
 use Rattle.serde_json.specs.Data.{Data}
 use Rattle.serde_json.specs.Find.{get, as_str}
-use Rattle.or_base.specs.Limits.{is_between, is_name_byte, is_node_name, is_interface_name}
+use Rattle.or_base.specs.Limits.{most_node_name_bytes, most_interface_name_bytes, most_value_bytes, is_between, is_name_byte, is_node_name, is_interface_name}
 use Rattle.net_fields.specs.declared.form.Form.TheVariants as form
 use Rattle.net_fields.specs.declared.word.Word.{Word}
 use Rattle.net_fields.specs.Fields.{Entry, fields_of}
 use Rattle.net_fields.specs.Forms.{fits, is_long, is_no_prefix, is_no_script, hex_bytes}
 use Rattle.net_fields.specs.Members.{has, text_at, value_at}
-use Rattle.net_fields.specs.Objects.{meets, is_absent, has_other_member, has_unfit_field, is_contradictory, is_field_missing, has_field_that, has_long_field, has_bad_prefix, has_bad_script}
+use Rattle.net_fields.specs.Objects.{meets, is_absent, has_other_member, has_unfit_field, is_contradictory, is_field_missing, has_field_that, has_field_with, has_bad_prefix, has_bad_script}
 use Rattle.net_fields.proofs.HexBytes.{half_said}
 use Rattle.net_laboratory.specs.declared.declared.NodeDecl.{NodeDecl}
 use Rattle.net_laboratory.specs.declared.declared.LinkDecl.{LinkDecl}
+use Rattle.net_laboratory.proofs.Room.{few, link_room}
+use Rattle.net_laboratory.specs.Limits.{most_line_bytes, most_nodes, most_failing_calls, last_failing_call, most_links, most_turns}
 use Rattle.net_laboratory.specs.Scenario.{is_declared, is_end, is_interface}
 use Rattle.net_scenario.specs.Seen.{Seen, is_sound_so_far, is_opened, declared_by}
 use Rattle.net_laboratory.specs.Sound.{are_admitted, admits_node, admits_link, admits_command, is_lifetime, is_metric}
@@ -39,7 +41,7 @@ unfolding is_field_missing
 absent_parts w d e = (or_parts (list_any (is_absent d) (fields_of w)) _ e).0
 
 unfit_parts : (seen : Seen) (w : Word) (d : Data) → is_bad_field seen w d ≡ false → list_any (meets (λ f v. not (fits f v)) d) (fields_of w) ≡ false
-unfolding is_bad_field has_unfit_field
+unfolding is_bad_field has_field_with
 unfit_parts seen w d e =
     let o = has_other_member w d in
     let u = list_any (meets (λ f v. not (fits f v)) d) (fields_of w) in
@@ -65,15 +67,15 @@ unfolding is_unknown_name
 ends_not seen w d e = (or_parts (has_field_that (is_undeclared seen) w d) (is_no_end seen w d) e).1
 
 long_parts : (line : Line) (w : Word) (d : Data) → is_too_long line w d ≡ false → list_any (meets is_long d) (fields_of w) ≡ false
-unfolding is_too_long has_long_field
-long_parts line w d e = (or_parts (nat_lt 65536 (length line.text) || is_late line) (list_any (meets is_long d) (fields_of w)) e).1
+unfolding is_too_long has_field_with
+long_parts line w d e = (or_parts (nat_lt most_line_bytes (length line.text) || is_late line) (list_any (meets is_long d) (fields_of w)) e).1
 
 prefix_parts : (w : Word) (d : Data) → has_bad_prefix w d ≡ false → list_any (meets is_no_prefix d) (fields_of w) ≡ false
-unfolding has_bad_prefix
+unfolding has_field_with
 prefix_parts w d e = e
 
 script_parts : (w : Word) (d : Data) → has_bad_script w d ≡ false → list_any (meets is_no_script d) (fields_of w) ≡ false
-unfolding has_bad_script
+unfolding has_field_with
 script_parts w d e = e
 
 -- nothing is wrong with the field of the command that has this number
@@ -93,11 +95,11 @@ fine seen turns line w d n k f at = record {
 node_admitted : (before : List NodeDecl) (node : NodeDecl) → admits_node before node ≡ true → is_node_name node.name ≡ true
 unfolding admits_node
 node_admitted before node e =
-    let a = nat_lt (length before) 64 in
+    let a = nat_lt (length before) most_nodes in
     let b = is_node_name node.name in
     let c = not (is_declared before node.name) in
-    let p = nat_le (length node.faults) 64 in
-    (and_parts a b (and_parts (a && b) c (and_parts (a && b && c) p (and_parts (a && b && c && p) (list_all (is_between 1 500000) node.faults) e).0).0).0).1
+    let p = nat_le (length node.faults) most_failing_calls in
+    (and_parts a b (and_parts (a && b) c (and_parts (a && b && c) p (and_parts (a && b && c && p) (list_all (is_between 1 last_failing_call) node.faults) e).0).0).0).1
 
 declared_among : (before nodes : List NodeDecl) (name : List ℕ) → are_admitted admits_node before nodes ≡ true → is_declared nodes name ≡ true → is_node_name name ≡ true
 declared_among before [] name e among = absurd (true≢false (sym among))
@@ -108,36 +110,9 @@ declared_among before (node ∷ nodes) name e among =
       | inr later ↦ declared_among (before ++ node ∷ []) nodes name parts.1 later
     ]
 
--- items of which each is admitted only behind fewer than so many
-few_among : {X : Type 0} (admits : List X → X → Bool) (most : ℕ) (small : (before : List X) (x : X) → admits before x ≡ true → length before < most) (before xs : List X)
-    → length before ≤ most → are_admitted admits before xs ≡ true → length before + length xs ≤ most
-few_among admits most small before [] h e = omega arith
-few_among admits most small before (x ∷ xs) h e =
-    let parts = and_parts (admits before x) (are_admitted admits (before ++ x ∷ []) xs) e in
-    let less : length before < most = small before x parts.0 in
-    let pushed : length (before ++ x ∷ []) ≡ length before + 1 = length_push before x in
-    let rest : length (before ++ x ∷ []) + length xs ≤ most = few_among admits most small (before ++ x ∷ []) xs (omega arith) parts.1 in
-    omega arith
-
 pub record SoundSeen (seen : Seen) : Type 0 where
   pub names : (name : List ℕ) → is_declared seen.nodes name ≡ true → is_node_name name ≡ true
-  pub links : length seen.links ≤ 256
-
-link_small : (nodes : List NodeDecl) (before : List LinkDecl) (link : LinkDecl) → admits_link nodes before link ≡ true → length before < 256
-unfolding admits_link
-link_small nodes before link e =
-    let p1 = and_parts _ (nat_lt (count_by (is_end link.b) before) 24) e in
-    let p2 = and_parts _ (nat_lt (count_by (is_end link.a) before) 24) p1.0 in
-    let p3 = and_parts _ (not (is_interface before link.b link.bif)) p2.0 in
-    let p4 = and_parts _ (not (is_interface before link.a link.aif)) p3.0 in
-    let p5 = and_parts _ (is_metric link.bm) p4.0 in
-    let p6 = and_parts _ (is_metric link.am) p5.0 in
-    let p7 = and_parts _ (is_interface_name link.bif) p6.0 in
-    let p8 = and_parts _ (is_interface_name link.aif) p7.0 in
-    let p9 = and_parts _ (not (bytes_eq link.a link.b)) p8.0 in
-    let p10 = and_parts _ (is_declared nodes link.b) p9.0 in
-    let p11 = and_parts (nat_lt (length before) 256) (is_declared nodes link.a) p10.0 in
-    ltb-true (length before) 256 p11.0
+  pub links : length seen.links ≤ most_links
 
 pub sound_seen : (seen : Seen) → is_sound_so_far seen ≡ true → SoundSeen seen
 unfolding is_sound_so_far
@@ -146,46 +121,46 @@ sound_seen seen e =
     let b = are_admitted admits_node [] seen.nodes in
     let c = are_admitted (admits_link seen.nodes) [] seen.links in
     let p = are_admitted (admits_command (declared_by seen)) [] seen.commands in
-    let e3 = and_parts (a && b && c) p (and_parts (a && b && c && p) (nat_le (length seen.turns) 500000) e).0 in
+    let e3 = and_parts (a && b && c) p (and_parts (a && b && c && p) (nat_le (length seen.turns) most_turns) e).0 in
     let e2 = and_parts (a && b) c e3.0 in
-    let few : 0 + length seen.links ≤ 256 = few_among (admits_link seen.nodes) 256 (link_small seen.nodes) [] seen.links (omega arith) e2.1 in
-    record { names = λ name among. declared_among [] seen.nodes name (and_parts a b e2.0).1 among; links = omega (arith, few) }
+    let fits : 0 + length seen.links ≤ most_links = few (admits_link seen.nodes) most_links (link_room seen.nodes) [] seen.links (omega arith) e2.1 in
+    record { names = λ name among. declared_among [] seen.nodes name (and_parts a b e2.0).1 among; links = omega (arith, fits) }
 
 -- ---- values
 
--- at most 4,096 bytes
-short_if : (b : Bool) (x y : List ℕ) → length x ≤ 4096 → length y ≤ 4096 → nat_le (length (cond b x y)) 4096 ≡ true
-short_if true x y h k = le-leb (length x) 4096 h
-short_if false x y h k = le-leb (length y) 4096 k
+-- a value within its limit
+short_if : (b : Bool) (x y : List ℕ) → length x ≤ most_value_bytes → length y ≤ most_value_bytes → nat_le (length (cond b x y)) most_value_bytes ≡ true
+short_if true x y h k = le-leb (length x) most_value_bytes h
+short_if false x y h k = le-leb (length y) most_value_bytes k
 
-pub short_value : (d : Data) → nat_lt 4096 (length (text_at (codes "hex") d) / 2) ≡ false → nat_lt 4096 (length (text_at (codes "text") d)) ≡ false
-    → nat_le (length (value_at d)) 4096 ≡ true
+pub short_value : (d : Data) → nat_lt most_value_bytes (length (text_at (codes "hex") d) / 2) ≡ false → nat_lt most_value_bytes (length (text_at (codes "text") d)) ≡ false
+    → nat_le (length (value_at d)) most_value_bytes ≡ true
 unfolding value_at
 short_value d hex text =
     let half : length (unwrap_or (hex_bytes (text_at (codes "hex") d)) []) * 2 ≤ length (text_at (codes "hex") d) = half_said (text_at (codes "hex") d) in
-    let h : length (text_at (codes "hex") d) / 2 ≤ 4096 = ltb-false 4096 (length (text_at (codes "hex") d) / 2) hex in
+    let h : length (text_at (codes "hex") d) / 2 ≤ most_value_bytes = ltb-false most_value_bytes (length (text_at (codes "hex") d) / 2) hex in
     short_if (has (codes "hex") d) (unwrap_or (hex_bytes (text_at (codes "hex") d)) []) (text_at (codes "text") d)
-    (omega arith) (ltb-false 4096 (length (text_at (codes "text") d)) text)
+    (omega arith) (ltb-false most_value_bytes (length (text_at (codes "text") d)) text)
 
 -- a node's name behind `if-` is an interface's
 pub default_interface : (name : List ℕ) → is_node_name name ≡ true → is_interface_name (codes "if-" ++ name) ≡ true
 unfolding is_node_name is_interface_name
 default_interface name e =
-    let parts = and_parts (is_between 1 20 (length name)) (list_all is_name_byte name) e in
-    let h : length name ≤ 20 = leb-true (length name) 20 (and_parts (nat_le 1 (length name)) (nat_le (length name) 20) parts.0).1 in
+    let parts = and_parts (is_between 1 most_node_name_bytes (length name)) (list_all is_name_byte name) e in
+    let h : length name ≤ most_node_name_bytes = leb-true (length name) most_node_name_bytes (and_parts (nat_le 1 (length name)) (nat_le (length name) most_node_name_bytes) parts.0).1 in
     let n : ℕ = length (codes "if-" ++ name) in
-    and_from (is_between 1 24 n) (list_all is_name_byte name) (and_from (nat_le 1 n) (nat_le n 24) (le-leb 1 n (omega arith)) (le-leb n 24 (omega arith))) parts.1
+    and_from (is_between 1 most_interface_name_bytes n) (list_all is_name_byte name) (and_from (nat_le 1 n) (nat_le n most_interface_name_bytes) (le-leb 1 n (omega arith)) (le-leb n most_interface_name_bytes (omega arith))) parts.1
 
-pub name_or : (seen : Seen) (default : List ℕ) (found : Option Data) → is_node_name default ≡ true → Fine seen (form.Name 20) false found
+pub name_or : (seen : Seen) (default : List ℕ) (found : Option Data) → is_node_name default ≡ true → Fine seen (form.Name most_node_name_bytes) false found
     → is_node_name (unwrap_or (option_and_then as_str found) default) ≡ true
 unfolding fits is_long
 name_or seen default None h f = h
 name_or seen default (Some v) h f =
-    let parts = both _ (λ t. nat_lt 20 (length t)) (as_str v) default f.fit f.short in node_name (unwrap_or (as_str v) default) parts.0 parts.1
+    let parts = both _ (λ t. nat_lt most_node_name_bytes (length t)) (as_str v) default f.fit f.short in node_name (unwrap_or (as_str v) default) parts.0 parts.1
 
-pub interface_or : (seen : Seen) (default : List ℕ) (found : Option Data) → is_interface_name default ≡ true → Fine seen (form.Name 24) false found
+pub interface_or : (seen : Seen) (default : List ℕ) (found : Option Data) → is_interface_name default ≡ true → Fine seen (form.Name most_interface_name_bytes) false found
     → is_interface_name (unwrap_or (option_and_then as_str found) default) ≡ true
 unfolding fits is_long
 interface_or seen default None h f = h
 interface_or seen default (Some v) h f =
-    let parts = both _ (λ t. nat_lt 24 (length t)) (as_str v) default f.fit f.short in interface_name (unwrap_or (as_str v) default) parts.0 parts.1
+    let parts = both _ (λ t. nat_lt most_interface_name_bytes (length t)) (as_str v) default f.fit f.short in interface_name (unwrap_or (as_str v) default) parts.0 parts.1

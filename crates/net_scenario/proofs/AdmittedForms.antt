@@ -6,15 +6,16 @@ use Rattle.std.specs.Str.{bytes_eq}
 use Rattle.std.proofs.lemmas.Bool.{true≢false, and_parts, and_from, le-leb, leb-true, leb-false, lt-ltb, ltb-true, ltb-false}
 use Rattle.serde_json.specs.Data.{Data, Items, no_items, item}
 use Rattle.serde_json.specs.Find.{as_array, as_str}
-use Rattle.or_base.specs.Limits.{is_between, is_name_byte, is_node_name, is_interface_name, is_key}
+use Rattle.or_base.specs.Limits.{most_node_name_bytes, most_interface_name_bytes, most_key_bytes, most_value_bytes, is_between, is_name_byte, is_key_byte, is_node_name, is_interface_name, is_key}
 use Rattle.or_base.specs.declared.act.Act.{Act}
 use Rattle.or_base.specs.declared.act.Act.TheVariants as act
 use Rattle.or_prefix.specs.Reading.{prefix_of}
 use Rattle.net_fields.specs.declared.form.Form.{Form}
 use Rattle.net_fields.specs.declared.form.Form.TheVariants as form
-use Rattle.net_fields.specs.Forms.{is_name, is_key_text, as_natural, is_number_in, items_len, all_items, fits, is_long, is_no_prefix, is_no_script, act_of, is_act as names_act}
+use Rattle.net_fields.specs.Forms.{is_name, is_key_text, as_natural, is_number_in, items_len, all_items, fits, is_long, is_no_prefix, is_no_script, act_of, names_act}
 use Rattle.net_fields.specs.Members.{naturals_in, act_in, acts_in}
 use Rattle.net_scenario.specs.Seen.{Seen}
+use Rattle.net_laboratory.specs.Limits.{most_acts}
 use Rattle.net_laboratory.specs.Scenario.{is_declared}
 use Rattle.net_laboratory.specs.Sound.{is_act, are_acts}
 use Rattle.net_scenario.specs.Conditions.{is_undeclared}
@@ -39,17 +40,17 @@ limited false short all e s = e
 
 -- ---- names and keys
 
-pub node_name : (text : List ℕ) → is_name text ≡ true → nat_lt 20 (length text) ≡ false → is_node_name text ≡ true
+pub node_name : (text : List ℕ) → is_name text ≡ true → nat_lt most_node_name_bytes (length text) ≡ false → is_node_name text ≡ true
 unfolding is_node_name
-node_name text name short = limited (nat_le 1 (length text)) (nat_le (length text) 20) (list_all is_name_byte text) name (at_most 20 (length text) short)
+node_name text name short = limited (nat_le 1 (length text)) (nat_le (length text) most_node_name_bytes) (list_all is_name_byte text) name (at_most most_node_name_bytes (length text) short)
 
-pub interface_name : (text : List ℕ) → is_name text ≡ true → nat_lt 24 (length text) ≡ false → is_interface_name text ≡ true
+pub interface_name : (text : List ℕ) → is_name text ≡ true → nat_lt most_interface_name_bytes (length text) ≡ false → is_interface_name text ≡ true
 unfolding is_interface_name
-interface_name text name short = limited (nat_le 1 (length text)) (nat_le (length text) 24) (list_all is_name_byte text) name (at_most 24 (length text) short)
+interface_name text name short = limited (nat_le 1 (length text)) (nat_le (length text) most_interface_name_bytes) (list_all is_name_byte text) name (at_most most_interface_name_bytes (length text) short)
 
-key : (text : List ℕ) → is_key_text text ≡ true → nat_lt 128 (length text) ≡ false → is_key text ≡ true
+key : (text : List ℕ) → is_key_text text ≡ true → nat_lt most_key_bytes (length text) ≡ false → is_key text ≡ true
 unfolding is_key
-key text name short = limited (nat_le 1 (length text)) (nat_le (length text) 128) (list_all (is_between 0x21 0x7e) text) name (at_most 128 (length text) short)
+key text name short = limited (nat_le 1 (length text)) (nat_le (length text) most_key_bytes) (list_all is_key_byte text) name (at_most most_key_bytes (length text) short)
 
 -- ---- numbers of 32 bits
 
@@ -185,7 +186,7 @@ pub key_needed : (seen : Seen) (found : Option Data) → Fine seen form.Key true
 unfolding fits is_long
 key_needed seen None f = absurd (true≢false f.present)
 key_needed seen (Some v) f =
-    let parts = both is_key_text (λ t. nat_lt 128 (length t)) (as_str v) [] f.fit f.short in
+    let parts = both is_key_text (λ t. nat_lt most_key_bytes (length t)) (as_str v) [] f.fit f.short in
     key (unwrap_or (as_str v) []) parts.0 parts.1
 
 -- no text is too long where none is there
@@ -193,15 +194,15 @@ short_of : (wrong : List ℕ → Bool) (text : Option (List ℕ)) → wrong [] �
 short_of wrong None none e = none
 short_of wrong (Some t) none e = e
 
-pub text_optional : (seen : Seen) (found : Option Data) → Fine seen form.Text false found → nat_lt 4096 (length (unwrap_or (option_and_then as_str found) [])) ≡ false
+pub text_optional : (seen : Seen) (found : Option Data) → Fine seen form.Text false found → nat_lt most_value_bytes (length (unwrap_or (option_and_then as_str found) [])) ≡ false
 unfolding is_long
 text_optional seen None f = refl
-text_optional seen (Some v) f = short_of (λ t. nat_lt 4096 (length t)) (as_str v) refl f.short
+text_optional seen (Some v) f = short_of (λ t. nat_lt most_value_bytes (length t)) (as_str v) refl f.short
 
-pub hex_optional : (seen : Seen) (found : Option Data) → Fine seen form.Hex false found → nat_lt 4096 (length (unwrap_or (option_and_then as_str found) []) / 2) ≡ false
+pub hex_optional : (seen : Seen) (found : Option Data) → Fine seen form.Hex false found → nat_lt most_value_bytes (length (unwrap_or (option_and_then as_str found) []) / 2) ≡ false
 unfolding is_long
 hex_optional seen None f = refl
-hex_optional seen (Some v) f = short_of (λ t. nat_lt 4096 (length t / 2)) (as_str v) refl f.short
+hex_optional seen (Some v) f = short_of (λ t. nat_lt most_value_bytes (length t / 2)) (as_str v) refl f.short
 
 pub link_needed : (seen : Seen) (found : Option Data) → Fine seen form.Link true found
     → nat_lt (unwrap_or (option_and_then as_natural found) 0) (length seen.links) ≡ true
@@ -220,12 +221,12 @@ unfolding fits is_no_prefix
 prefix_needed seen None f = absurd (true≢false f.present)
 prefix_needed seen (Some v) f = some_unless (prefix_of (unwrap_or (as_str v) [])) (not_there (λ t. is_none (prefix_of t)) (as_str v) [] (from_not _ f.fit) f.prefix)
 
-acts_of : (ds : Option Items) → is_some ds ≡ true → option_map_or (λ ds. not (is_between 1 256 (items_len ds) && all_items names_act ds)) ds false ≡ false
+acts_of : (ds : Option Items) → is_some ds ≡ true → option_map_or (λ ds. not (is_between 1 most_acts (items_len ds) && all_items names_act ds)) ds false ≡ false
     → are_acts (acts_in (unwrap_or ds no_items)) ≡ true
 acts_of None some e = absurd (true≢false (sym some))
 acts_of (Some ds) some e =
-    and_from (is_between 1 256 (length (acts_in ds))) (list_all is_act (acts_in ds))
-    (subst (λ n. is_between 1 256 n ≡ true) (sym (length-acts_in ds)) (and_parts (is_between 1 256 (items_len ds)) (all_items names_act ds) (from_not _ e)).0)
+    and_from (is_between 1 most_acts (length (acts_in ds))) (list_all is_act (acts_in ds))
+    (subst (λ n. is_between 1 most_acts n ≡ true) (sym (length-acts_in ds)) (and_parts (is_between 1 most_acts (items_len ds)) (all_items names_act ds) (from_not _ e)).0)
     (all_acts ds)
 
 pub acts_needed : (seen : Seen) (found : Option Data) → Fine seen form.Acts true found → are_acts (acts_in (unwrap_or (option_and_then as_array found) no_items)) ≡ true

@@ -9,11 +9,13 @@ use Rattle.net_fields.specs.declared.word.Word.{Word}
 use Rattle.net_fields.specs.declared.word.Word.TheVariants as word
 use Rattle.net_fields.specs.Word.{word_of}
 use Rattle.net_fields.specs.Objects.{object_in, word_in, is_lab, is_field_missing, has_bad_prefix, has_bad_script}
+use Rattle.net_scenario.specs.declared.fault.FaultKind.{FaultKind}
+use Rattle.net_scenario.specs.declared.fault.FaultKind.TheVariants as fault
 use Rattle.net_scenario.specs.declared.statement.Statement.{Statement}
 use Rattle.net_scenario.specs.Seen.{Seen}
 use Rattle.net_scenario.specs.Statement.{statement_of}
 use Rattle.net_scenario.specs.Conditions.{is_bad_field, is_unknown_name, is_repeated, has_two_owners, is_too_many, is_misplaced}
-use Rattle.net_scenario.specs.Faults.{Line, is_too_long, conditions, lowest, said, outcome, line_of}
+use Rattle.net_scenario.specs.Faults.{Line, is_too_long, conditions, first_fault, statement_in, outcome, line_of}
 use Rattle.net_scenario.proofs.AdmittedForms.{from_not, some_unless}
 
 -- none of the conditions on a command holds
@@ -38,10 +40,10 @@ pub record Read (seen : Seen) (turns : Bool) (line : Line) (s : Statement) : Typ
   pub says : statement_of w d ≡ s
 
 -- where something is read, the first row doesn't hold, and the others decide
-first : (b : Bool) (number : ℕ) (rest : Option ℕ) (what : Option Statement) (s : Statement)
-    → outcome (cond b (Some number) rest) what ≡ Ok s → (b ≡ false) × (outcome rest what ≡ Ok s)
-first true number rest what s e = cc
-first false number rest what s e = (refl, e)
+first : (b : Bool) (kind : FaultKind) (rest : Option FaultKind) (what : Option Statement) (s : Statement)
+    → outcome (cond b (Some kind) rest) what ≡ Ok s → (b ≡ false) × (outcome rest what ≡ Ok s)
+first true kind rest what s e = cc
+first false kind rest what s e = (refl, e)
 
 at_word : (p : Word → Bool) (named : Option Word) (w : Word) → named ≡ Some w → option_map_or p named false ≡ false → p w ≡ false
 at_word p None w named e = cc
@@ -69,26 +71,26 @@ opened_by seen d w named e =
     ]
 
 read_object : (seen : Seen) (turns : Bool) (line : Line) (object : Option Data) (s : Statement)
-    → outcome (lowest (conditions seen turns line object)) (said object) ≡ Ok s → Read seen turns line s
+    → outcome (first_fault (conditions seen turns line object)) (statement_in object) ≡ Ok s → Read seen turns line s
 read_object seen turns line None s e =
-    let r1 = first (not (is_utf8 line.text)) 1 (Some 2) None s e in
-    let r2 = first true 2 None None s r1.1 in
+    let r1 = first (not (is_utf8 line.text)) fault.NotText (Some fault.BadJson) None s e in
+    let r2 = first true fault.BadJson None None s r1.1 in
     absurd (true≢false r2.0)
 read_object seen turns line (Some d) s e =
     let what : Option Statement = option_map (λ w. statement_of w d) (word_in d) in
-    let r1 = first (not (is_utf8 line.text)) 1 _ what s e in
-    let r3 = first (is_none seen.kind && not (is_lab d)) 3 _ what s r1.1 in
-    let r4 = first (is_none (word_in d)) 4 _ what s r3.1 in
-    let r5 = first _ 5 _ what s r4.1 in
-    let r6 = first _ 6 _ what s r5.1 in
-    let r7 = first _ 7 _ what s r6.1 in
-    let r8 = first _ 8 _ what s r7.1 in
-    let r9 = first _ 9 _ what s r8.1 in
-    let r10 = first _ 10 _ what s r9.1 in
-    let r11 = first _ 11 _ what s r10.1 in
-    let r12 = first _ 12 _ what s r11.1 in
-    let r13 = first _ 13 _ what s r12.1 in
-    let r14 = first _ 14 _ what s r13.1 in
+    let r1 = first (not (is_utf8 line.text)) fault.NotText _ what s e in
+    let r3 = first (is_none seen.kind && not (is_lab d)) fault.NoLab _ what s r1.1 in
+    let r4 = first (is_none (word_in d)) fault.UnknownCommand _ what s r3.1 in
+    let r5 = first _ fault.MissingField _ what s r4.1 in
+    let r6 = first _ fault.BadField _ what s r5.1 in
+    let r7 = first _ fault.UnknownName _ what s r6.1 in
+    let r8 = first _ fault.RepeatedName _ what s r7.1 in
+    let r9 = first _ fault.TwoOwners _ what s r8.1 in
+    let r10 = first _ fault.TooMany _ what s r9.1 in
+    let r11 = first _ fault.TooLong _ what s r10.1 in
+    let r12 = first _ fault.BadPrefix _ what s r11.1 in
+    let r13 = first _ fault.BadScript _ what s r12.1 in
+    let r14 = first _ fault.WrongKind _ what s r13.1 in
     let named = some_of (word_in d) r4.0 in
     let w = named.0 in
     let at = λ (p : Word → Bool) (e : option_map_or p (word_in d) false ≡ false). at_word p (word_in d) w named.1 e in

@@ -1,7 +1,7 @@
 -- Where the first line of some bytes ends.
 use Rattle.std.proofs.Common.{◌≡◌, ℕ, ◌+◌, ◌<◌, ◌≤◌, ◌==◌, min, List, [], ◌∷◌, ◌++◌, length, take, drop, get_or, true, false, if◌then◌else◌, refl, ap, sym, ◌∙◌, arith, append-nil}
 use Rattle.std.proofs.lemmas.List.{drop_more, take_more, take_all, drop_all}
-use Rattle.net_scenario.specs.Language.{with_first, lines_in, placed}
+use Rattle.net_scenario.specs.Language.{with_first, lines_in, lines_from}
 
 -- some bytes without LF in front of the first line
 abbrev pub joined : List ℕ → List (List ℕ) → List (List ℕ)
@@ -67,14 +67,14 @@ pub ruleset cuts = (front_none, front_more, line_ends, bytes_end)
 -- ---- the lines that are left
 
 -- where a line ends doesn't matter if no line follows
-pub placed_next : (total number at after : ℕ) (text left rest : List ℕ) → lines_in left ≡ text ∷ lines_in rest → at + length left ≡ total
+pub lines_from_next : (total number at after : ℕ) (text left rest : List ℕ) → lines_in left ≡ text ∷ lines_in rest → at + length left ≡ total
     → min (length text + 1) (length left) + length rest ≡ length left → after + length rest ≡ total
-    → placed total number at (lines_in left) ≡ record { text = text; number = number; end = after } ∷ placed total (number + 1) after (lines_in rest)
-placed_next total number at after text left [] cut all sum left_all =
-    ap (placed total number at) cut
+    → lines_from total number at (lines_in left) ≡ record { text = text; number = number; end = after } ∷ lines_from total (number + 1) after (lines_in rest)
+lines_from_next total number at after text left [] cut all sum left_all =
+    ap (lines_from total number at) cut
     ∙ ap (λ end. record { text = text; number = number; end = end } ∷ []) (omega (arith, all, sum, left_all))
-placed_next total number at after text left (b ∷ rest) cut all sum left_all =
+lines_from_next total number at after text left (b ∷ rest) cut all sum left_all =
     let end : at + length text + 1 ≡ after = omega (arith, all, sum, left_all) in
-    ap (placed total number at) cut
-    ∙ ap (λ end. record { text = text; number = number; end = end } ∷ placed total (number + 1) (at + length text + 1) (lines_in (b ∷ rest))) (omega (arith, all, sum, left_all))
-    ∙ ap (λ begin. record { text = text; number = number; end = after } ∷ placed total (number + 1) begin (lines_in (b ∷ rest))) end
+    ap (lines_from total number at) cut
+    ∙ ap (λ end. record { text = text; number = number; end = end } ∷ lines_from total (number + 1) (at + length text + 1) (lines_in (b ∷ rest))) (omega (arith, all, sum, left_all))
+    ∙ ap (λ begin. record { text = text; number = number; end = after } ∷ lines_from total (number + 1) begin (lines_in (b ∷ rest))) end

@@ -9,8 +9,11 @@ use Rattle.net_scenario.specs.declared.statement.Statement.{Statement}
 use Rattle.net_scenario.specs.declared.fault.ScenarioFault.{ScenarioFault}
 use Rattle.net_laboratory.specs.Scenario.{Laboratory}
 use Rattle.net_scenario.specs.Seen.{Seen, nothing_seen}
+use Rattle.net_laboratory.specs.Limits.{most_scenario_bytes, most_line_bytes}
+use Rattle.net_scenario.specs.declared.fault.FaultKind.{FaultKind}
+use Rattle.net_scenario.specs.declared.fault.FaultKind.TheVariants as kind
 use Rattle.net_scenario.specs.Faults.{Line, is_late, is_too_long, line_of}
-use Rattle.net_scenario.specs.Language.{with_first, lines_in, placed, lines_of, is_blank, fault_at, after_line, line_step, and_then, lines_read, is_all_blank, whole, scenario_of}
+use Rattle.net_scenario.specs.Language.{with_first, lines_in, lines_from, lines_of, is_blank, fault_at, after_line, line_step, and_then, after_lines, is_all_blank, whole, scenario_of}
 use Rattle.net_scenario.proofs.AdmittedRows.{read_line}
 
 -- ---- a line that ends too late has a fault
@@ -18,11 +21,11 @@ use Rattle.net_scenario.proofs.AdmittedRows.{read_line}
 not_late : (line : Line) (w : Word) (d : Data) → is_too_long line w d ≡ false → is_late line ≡ false
 unfolding is_too_long
 not_late line w d e =
-    (or_parts (nat_lt 65536 (length line.text)) (is_late line) (or_parts (nat_lt 65536 (length line.text) || is_late line) (has_long_field w d) e).0).1
+    (or_parts (nat_lt most_line_bytes (length line.text)) (is_late line) (or_parts (nat_lt most_line_bytes (length line.text) || is_late line) (has_long_field w d) e).0).1
 
-said_in_time : (seen : Seen) (turns : Bool) (line : Line) (next : Seen) (read : Result Statement ℕ) → line_of seen turns line ≡ read
+said_in_time : (seen : Seen) (turns : Bool) (line : Line) (next : Seen) (read : Result Statement FaultKind) → line_of seen turns line ≡ read
     → after_line seen line.number read ≡ Ok next → is_late line ≡ false
-said_in_time seen turns line next (Err number) same e = absurd cc
+said_in_time seen turns line next (Err fault) same e = absurd cc
 said_in_time seen turns line next (Ok s) same e =
     let r = read_line seen turns line s same in not_late line r.w r.d r.faultless.long
 
@@ -35,9 +38,9 @@ unfolding line_step
 in_time seen turns line next e = at_text (is_blank line.text) e
   where
     at_text : (blank : Bool)
-        → cond blank (cond (is_late line) (Err (fault_at line.number 11)) (Ok seen)) (after_line seen line.number (line_of seen turns line)) ≡ Ok next
+        → cond blank (cond (is_late line) (Err (fault_at line.number kind.TooLong)) (Ok seen)) (after_line seen line.number (line_of seen turns line)) ≡ Ok next
         → is_late line ≡ false
-    at_text true e = blank_in_time (is_late line) seen next (fault_at line.number 11) e
+    at_text true e = blank_in_time (is_late line) seen next (fault_at line.number kind.TooLong) e
     at_text false e = said_in_time seen turns line next (line_of seen turns line) refl e
 
 -- ---- the last line ends with the bytes
@@ -66,34 +69,34 @@ first_read (Ok between) next seen e = (between, refl, e)
 first_read (Err fault) next seen e = absurd cc
 
 -- the bytes end where the last line does, in time
-lines_in_limit : (seen : Seen) (turns : Bool) (total number at : ℕ) (texts : List (List ℕ)) (last : Seen) → at ≤ 33554432 → total ≤ at + size_of texts
-    → lines_read seen turns (placed total number at texts) ≡ Ok last → total ≤ 33554432
+lines_in_limit : (seen : Seen) (turns : Bool) (total number at : ℕ) (texts : List (List ℕ)) (last : Seen) → at ≤ most_scenario_bytes → total ≤ at + size_of texts
+    → after_lines seen turns (lines_from total number at texts) ≡ Ok last → total ≤ most_scenario_bytes
 lines_in_limit seen turns total number at [] last begun all e = omega (arith, begun, all)
 lines_in_limit seen turns total number at (text ∷ texts) last begun all e =
     let line : Line = record { text = text; number = number; end = min (at + length text + 1) total } in
     let next = at + length text + 1 in
-    let r = first_read (line_step seen turns line) (λ between. lines_read between turns (placed total (number + 1) next texts)) last e in
-    let within : min next total ≤ 33554432 = not_above (min next total) (in_time seen turns line r.0 r.1) in
+    let r = first_read (line_step seen turns line) (λ between. after_lines between turns (lines_from total (number + 1) next texts)) last e in
+    let within : min next total ≤ most_scenario_bytes = not_above (min next total) (in_time seen turns line r.0 r.1) in
     let less = λ (more : next < total). lines_in_limit r.0 turns total (number + 1) next texts last (omega (arith, within, more)) (omega (arith, all)) r.2 in
     further (nat_lt next total) refl within less
   where
-    not_above : (n : ℕ) → nat_lt 33554432 n ≡ false → n ≤ 33554432
+    not_above : (n : ℕ) → nat_lt most_scenario_bytes n ≡ false → n ≤ most_scenario_bytes
     not_above n h = grind (arith, nat_tests, h)
 
-    further : (more : Bool) → nat_lt (at + length text + 1) total ≡ more → min (at + length text + 1) total ≤ 33554432
-        → (at + length text + 1 < total → total ≤ 33554432) → total ≤ 33554432
+    further : (more : Bool) → nat_lt (at + length text + 1) total ≡ more → min (at + length text + 1) total ≤ most_scenario_bytes
+        → (at + length text + 1 < total → total ≤ most_scenario_bytes) → total ≤ most_scenario_bytes
     further true more within later = later (grind (arith, nat_tests, more))
     further false none within later =
         let least : total ≤ at + length text + 1 = grind (arith, nat_tests, none) in omega (arith, within, least)
 
-pub whole_in_limit : (bytes : List ℕ) (turns : Bool) (lab : Laboratory) → scenario_of bytes turns ≡ Ok lab → length bytes ≤ 33554432
+pub whole_in_limit : (bytes : List ℕ) (turns : Bool) (lab : Laboratory) → scenario_of bytes turns ≡ Ok lab → length bytes ≤ most_scenario_bytes
 unfolding scenario_of
 whole_in_limit bytes turns lab e = at_bytes (is_all_blank bytes) e
   where
-    at_lines : (read : Result Seen ScenarioFault) → lines_read nothing_seen turns (lines_of bytes) ≡ read → whole read ≡ Ok lab → length bytes ≤ 33554432
+    at_lines : (read : Result Seen ScenarioFault) → after_lines nothing_seen turns (lines_of bytes) ≡ read → whole read ≡ Ok lab → length bytes ≤ most_scenario_bytes
     at_lines (Err fault) same e = absurd cc
     at_lines (Ok seen) same e = lines_in_limit nothing_seen turns (length bytes) 1 0 (lines_in bytes) seen (omega arith) (omega (arith, all_in_lines bytes)) same
 
-    at_bytes : (blank : Bool) → cond blank (Err (fault_at 1 3)) (whole (lines_read nothing_seen turns (lines_of bytes))) ≡ Ok lab → length bytes ≤ 33554432
+    at_bytes : (blank : Bool) → cond blank (Err (fault_at 1 kind.NoLab)) (whole (after_lines nothing_seen turns (lines_of bytes))) ≡ Ok lab → length bytes ≤ most_scenario_bytes
     at_bytes true e = absurd cc
-    at_bytes false e = at_lines (lines_read nothing_seen turns (lines_of bytes)) refl e
+    at_bytes false e = at_lines (after_lines nothing_seen turns (lines_of bytes)) refl e

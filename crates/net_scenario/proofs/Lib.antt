@@ -10,4 +10,3 @@ pub mod Tallies
 pub mod Cuts
 pub mod Lines
 pub mod Late
-pub mod Smallness

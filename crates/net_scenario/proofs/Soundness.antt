@@ -12,10 +12,12 @@ use Rattle.net_laboratory.specs.declared.declared.LinkDecl.{LinkDecl}
 use Rattle.net_laboratory.specs.declared.schedule.Turn.{Turn}
 use Rattle.net_scenario.specs.declared.statement.Statement.{Statement}
 use Rattle.net_scenario.specs.declared.statement.Statement.TheVariants as says
+use Rattle.net_laboratory.proofs.Room.{first_of}
+use Rattle.net_laboratory.specs.Limits.{most_links, most_nodes, most_failing_calls, last_failing_call, most_turns}
 use Rattle.net_laboratory.specs.Scenario.{Laboratory, is_declared}
-use Rattle.net_laboratory.specs.Limits.{is_settle, ends_in_settle}
-use Rattle.net_laboratory.specs.Sound.{Declared, is_lifetime, is_closing, closing, are_admitted, are_closed, admits_node, admits_link, admits_command, is_sound}
-use Rattle.net_scenario.specs.Seen.{Seen, declared_by, is_empty, is_opened, closed, given, with_line, admits, is_sound_so_far, scenario_in}
+use Rattle.net_laboratory.specs.Amounts.{is_settle, ends_in_settle}
+use Rattle.net_laboratory.specs.Sound.{Declarations, is_lifetime, is_default_settle, default_settle, are_admitted, end_in_settle, admits_node, admits_link, admits_command, is_sound}
+use Rattle.net_scenario.specs.Seen.{Seen, declared_by, is_empty, is_opened, with_last_settle, schedule_of, with_line, admits, is_sound_so_far, scenario_in}
 use Rattle.net_scenario.proofs.Bools.{both, and_true, or_left, or_right, or_more, or_true, under, not_true, none_not_some, empty_is_nil}
 
 -- ---- lists of which each item may stand behind those before it
@@ -28,17 +30,6 @@ admitted_more admits before (y ∷ ys) x h last =
     let parts = both (admits before y) (are_admitted admits (before ++ y ∷ []) ys) h in
     and_true (admits before y) (are_admitted admits (before ++ y ∷ []) (ys ++ x ∷ [])) parts.0
     (admitted_more admits (before ++ y ∷ []) ys x parts.1 (ap (λ front. admits front x) (append_assoc before (y ∷ []) ys) ∙ last))
-
--- as many items as may stand
-few : {X : Type 0} (admits : List X → X → Bool) (most : ℕ) → ((before : List X) (x : X) → admits before x ≡ true → length before < most)
-    → (before xs : List X) → length before ≤ most → are_admitted admits before xs ≡ true → length before + length xs ≤ most
-few admits most room before [] fits h = omega arith
-few admits most room before (x ∷ xs) fits h =
-    let parts = both (admits before x) (are_admitted admits (before ++ x ∷ []) xs) h in
-    let len : length (before ++ x ∷ []) ≡ length before + 1 = length-append before (x ∷ []) in
-    let here : length before < most = room before x parts.0 in
-    let rest : length (before ++ x ∷ []) + length xs ≤ most = few admits most room (before ++ x ∷ []) xs (omega (arith, len, here)) parts.1 in
-    omega (arith, len, rest)
 
 -- a looser test admits as much
 looser : {X : Type 0} (tight loose : List X → X → Bool) → ((before : List X) (x : X) → tight before x ≡ true → loose before x ≡ true)
@@ -66,7 +57,7 @@ link_more : (nodes : List NodeDecl) (node : NodeDecl) (before : List LinkDecl) (
 unfolding admits_link
 link_more nodes node before link h =
     under _ (under _ (under _ (under _ (under _ (under _ (under _ (under _ (under _
-    (behind (nat_lt (length before) 256) (is_declared nodes link.a) (is_declared (nodes ++ node ∷ []) link.a) (is_declared nodes link.b) (is_declared (nodes ++ node ∷ []) link.b)
+    (behind (nat_lt (length before) most_links) (is_declared nodes link.a) (is_declared (nodes ++ node ∷ []) link.a) (is_declared nodes link.b) (is_declared (nodes ++ node ∷ []) link.b)
     (any_more (λ n. bytes_eq n.name link.a) nodes node) (any_more (λ n. bytes_eq n.name link.b) nodes node)))))))))) h
 
 -- ---- what is seen, in parts
@@ -77,12 +68,12 @@ record Parts (seen : Seen) : Type 0 where
   nodes : are_admitted admits_node [] seen.nodes ≡ true
   links : are_admitted (admits_link seen.nodes) [] seen.links ≡ true
   commands : are_admitted (admits_command (declared_by seen)) [] seen.commands ≡ true
-  turns : nat_le (length seen.turns) 500000 ≡ true
+  turns : nat_le (length seen.turns) most_turns ≡ true
 
 parts_of : (seen : Seen) → is_sound_so_far seen ≡ true → Parts seen
 unfolding is_sound_so_far
 parts_of seen h =
-    let six = both _ (nat_le (length seen.turns) 500000) h in
+    let six = both _ (nat_le (length seen.turns) most_turns) h in
     let five = both _ (are_admitted (admits_command (declared_by seen)) [] seen.commands) six.0 in
     let four = both _ (are_admitted (admits_link seen.nodes) [] seen.links) five.0 in
     let three = both _ (are_admitted admits_node [] seen.nodes) four.0 in
@@ -92,7 +83,7 @@ parts_of seen h =
 whole_of : (seen : Seen) → Parts seen → is_sound_so_far seen ≡ true
 unfolding is_sound_so_far
 whole_of seen p =
-    and_true _ (nat_le (length seen.turns) 500000)
+    and_true _ (nat_le (length seen.turns) most_turns)
     (and_true _ (are_admitted (admits_command (declared_by seen)) [] seen.commands)
     (and_true _ (are_admitted (admits_link seen.nodes) [] seen.links)
     (and_true _ (are_admitted admits_node [] seen.nodes)
@@ -100,11 +91,11 @@ whole_of seen p =
     p.nodes) p.links) p.commands) p.turns
 
 -- no commands are admitted whatever is declared
-no_commands : (d : Declared) (commands : List Command) → is_empty commands ≡ true → are_admitted (admits_command d) [] commands ≡ true
+no_commands : (d : Declarations) (commands : List Command) → is_empty commands ≡ true → are_admitted (admits_command d) [] commands ≡ true
 no_commands d [] none = refl
 no_commands d (c ∷ commands) none = absurd cc
 
-one_turn_more : (turns : List Turn) (turn : Turn) → nat_lt (length turns) 500000 ≡ true → nat_le (length (turns ++ turn ∷ [])) 500000 ≡ true
+one_turn_more : (turns : List Turn) (turn : Turn) → nat_lt (length turns) most_turns ≡ true → nat_le (length (turns ++ turn ∷ [])) most_turns ≡ true
 one_turn_more turns turn h =
     let len : length (turns ++ turn ∷ []) ≡ length turns + 1 = length-append turns (turn ∷ []) in
     grind (arith, nat_tests, len)
@@ -202,13 +193,13 @@ unfolding ends_in_settle last_settles
 ends_last [] = refl
 ends_last (c ∷ commands) = fold_last false c commands
 
-closes : (d : Declared) (before commands : List Command) → are_admitted (admits_command d) before commands ≡ true → last_settles commands ≡ true
-    → are_closed d before commands ≡ true
+closes : (d : Declarations) (before commands : List Command) → are_admitted (admits_command d) before commands ≡ true → last_settles commands ≡ true
+    → end_in_settle d before commands ≡ true
 unfolding last_settles
 closes d before [] h last = absurd cc
 closes d before (c ∷ []) h last =
     let here = both (admits_command d before c) true h in
-    and_true (is_settle c) _ last (ap (λ b. b || is_closing before c) here.0)
+    and_true (is_settle c) _ last (ap (λ b. b || is_default_settle before c) here.0)
 closes d before (c ∷ next ∷ commands) h last =
     let here = both (admits_command d before c) _ h in
     and_true (admits_command d before c) _ here.0 (closes d (before ++ c ∷ []) (next ∷ commands) here.1 last)
@@ -217,9 +208,9 @@ not_false : (a : Bool) → a ≡ false → not a ≡ true
 not_false true h = absurd cc
 not_false false h = refl
 
-closes_with : (d : Declared) (before commands : List Command) → are_admitted (admits_command d) before commands ≡ true → ends_in_settle (before ++ commands) ≡ false
-    → are_closed d before (commands ++ closing ∷ []) ≡ true
-closes_with d before [] h unsettled = or_true (admits_command d before closing) (is_closing before closing) (not_false (ends_in_settle before) (ap ends_in_settle (sym (append-nil before)) ∙ unsettled))
+closes_with : (d : Declarations) (before commands : List Command) → are_admitted (admits_command d) before commands ≡ true → ends_in_settle (before ++ commands) ≡ false
+    → end_in_settle d before (commands ++ default_settle ∷ []) ≡ true
+closes_with d before [] h unsettled = or_true (admits_command d before default_settle) (is_default_settle before default_settle) (not_false (ends_in_settle before) (ap ends_in_settle (sym (append-nil before)) ∙ unsettled))
 closes_with d before (c ∷ []) h unsettled =
     let here = both (admits_command d before c) _ h in
     and_true (admits_command d before c) _ here.0 (closes_with d (before ++ c ∷ []) [] refl (ap ends_in_settle (append-nil (before ++ c ∷ [])) ∙ unsettled))
@@ -228,56 +219,26 @@ closes_with d before (c ∷ next ∷ commands) h unsettled =
     and_true (admits_command d before c) _ here.0
     (closes_with d (before ++ c ∷ []) (next ∷ commands) here.1 (ap ends_in_settle (append_assoc before (c ∷ []) (next ∷ commands)) ∙ unsettled))
 
-closed_at : (d : Declared) (commands : List Command) (ends : Bool) → ends_in_settle commands ≡ ends → are_admitted (admits_command d) [] commands ≡ true
-    → are_closed d [] (if ends then commands else commands ++ closing ∷ []) ≡ true
-closed_at d commands true e h = closes d [] commands h (sym (ends_last commands) ∙ e)
-closed_at d commands false e h = closes_with d [] commands h e
+with_last_settle_at : (d : Declarations) (commands : List Command) (ends : Bool) → ends_in_settle commands ≡ ends → are_admitted (admits_command d) [] commands ≡ true
+    → end_in_settle d [] (if ends then commands else commands ++ default_settle ∷ []) ≡ true
+with_last_settle_at d commands true e h = closes d [] commands h (sym (ends_last commands) ∙ e)
+with_last_settle_at d commands false e h = closes_with d [] commands h e
 
-given_fits : (turns : List Turn) → nat_le (length turns) 500000 ≡ true → option_map_or (λ g. is_between 1 500000 (length g.turns)) (given turns) true ≡ true
-given_fits [] h = refl
-given_fits (turn ∷ turns) h = grind (arith, nat_tests)
+schedule_fits : (turns : List Turn) → nat_le (length turns) most_turns ≡ true → option_map_or (λ g. is_between 1 most_turns (length g.turns)) (schedule_of turns) true ≡ true
+schedule_fits [] h = refl
+schedule_fits (turn ∷ turns) h = grind (arith, nat_tests)
 
 pub scenario_is_sound : (seen : Seen) → is_sound_so_far seen ≡ true → is_sound (scenario_in seen) ≡ true
 unfolding is_sound scenario_in
 scenario_is_sound seen sound =
     let p = parts_of seen sound in
     and_true _ _
-    (and_true _ (are_closed (declared_by seen) [] (closed seen.commands))
+    (and_true _ (end_in_settle (declared_by seen) [] (with_last_settle seen.commands))
     (and_true _ (are_admitted (admits_link seen.nodes) [] seen.links)
     (and_true (is_lifetime seen.ttl) (are_admitted admits_node [] seen.nodes) p.ttl p.nodes)
     p.links)
-    (closed_at (declared_by seen) seen.commands (ends_in_settle seen.commands) refl p.commands))
-    (given_fits seen.turns p.turns)
-
--- ---- what a sound scenario promises
-
-room_of : (n most : ℕ) → nat_lt n most ≡ true → n < most
-room_of n most h = grind (arith, nat_tests, h)
-
--- the first of some tests
-first_of : {a : Bool} (b : Bool) → (a && b) ≡ true → a ≡ true
-first_of {a} b h = (both a b h).0
-
-node_room : (before : List NodeDecl) (node : NodeDecl) → admits_node before node ≡ true → length before < 64
-unfolding admits_node
-node_room before node h = room_of (length before) 64 (first_of _ (first_of _ (first_of _ (first_of _ h))))
-
-link_room : (nodes : List NodeDecl) (before : List LinkDecl) (link : LinkDecl) → admits_link nodes before link ≡ true → length before < 256
-unfolding admits_link
-link_room nodes before link h =
-    room_of (length before) 256 (first_of _ (first_of _ (first_of _ (first_of _ (first_of _ (first_of _ (first_of _ (first_of _ (first_of _ (first_of _ (first_of _ h)))))))))))
-
-pub few_nodes : (lab : Laboratory) → is_sound lab ≡ true → length lab.nodes ≤ 64
-unfolding is_sound
-few_nodes lab sound =
-    let nodes = (both (is_lifetime lab.ttl) (are_admitted admits_node [] lab.nodes) (first_of _ (first_of _ (first_of _ sound)))).1 in
-    let fits = few admits_node 64 node_room [] lab.nodes (omega arith) nodes in omega (arith, fits)
-
-pub few_links : (lab : Laboratory) → is_sound lab ≡ true → length lab.links ≤ 256
-unfolding is_sound
-few_links lab sound =
-    let links = (both _ (are_admitted (admits_link lab.nodes) [] lab.links) (first_of _ (first_of _ sound))).1 in
-    let fits = few (admits_link lab.nodes) 256 (link_room lab.nodes) [] lab.links (omega arith) links in omega (arith, fits)
+    (with_last_settle_at (declared_by seen) seen.commands (ends_in_settle seen.commands) refl p.commands))
+    (schedule_fits seen.turns p.turns)
 
 -- nothing is declared or commanded before the line of the laboratory
 pub none_before : (seen : Seen) (kind : Kind) (ttl : Option ℕ) → is_sound_so_far seen ≡ true → admits seen (says.Lab kind ttl) ≡ true → (seen.nodes ≡ []) × (seen.commands ≡ [])
@@ -295,7 +256,7 @@ none_before seen kind ttl sound h =
 pub node_is_new : (seen : Seen) (node : NodeDecl) → admits seen (says.Node node) ≡ true → (seen.commands ≡ []) × (is_declared seen.nodes node.name ≡ false)
 unfolding admits admits_node
 node_is_new seen node h =
-    let one = both _ (nat_lt (length seen.nodes) 64 && is_node_name node.name && not (is_declared seen.nodes node.name) && nat_le (length node.faults) 64 && list_all (is_between 1 500000) node.faults) h in
+    let one = both _ (nat_lt (length seen.nodes) most_nodes && is_node_name node.name && not (is_declared seen.nodes node.name) && nat_le (length node.faults) most_failing_calls && list_all (is_between 1 last_failing_call) node.faults) h in
     let two = both (is_some seen.kind) (is_empty seen.commands) one.0 in
     let new = both _ (not (is_declared seen.nodes node.name)) (first_of _ (first_of _ one.1)) in
     (empty_is_nil seen.commands two.1, not_true (is_declared seen.nodes node.name) new.1)

@@ -11,7 +11,8 @@ use Rattle.net_laboratory.specs.Scenario.{is_declared}
 use Rattle.net_scenario.specs.Tallied.{names_of}
 use Rattle.net_scenario.specs.Seen.{nothing_seen, is_sound_so_far}
 use Rattle.net_scenario.proofs.Soundness.{stays_sound}
-use Rattle.net_laboratory.specs.Limits.{is_among, record_keys, with_record_keys, with_key, keys_in, with_owner, owners_in, with_offer, offers_in, is_settle, settle_count, settles_in, ends_in_settle, after_tick, last_tick}
+use Rattle.or_base.specs.Names.{is_among}
+use Rattle.net_laboratory.specs.Amounts.{record_keys, with_record_keys, with_key, keys_in, with_owner, owners_in, with_offer, offers_in, is_settle, settle_count, settles_in, ends_in_settle, after_tick, last_tick}
 
 -- ---- one command more
 
@@ -100,7 +101,7 @@ pub ruleset nothing_tallied = (keys_none, owners_none, offers_none, settles_none
 bytes_same : (a b : List ℕ) → bytes_eq a b ≡ bytes_eq b a
 bytes_same a b = nat_list_eq_equiv.symm a b
 
-pub among_names : (nodes : List NodeDecl) (name : List ℕ) → is_among (names_of nodes) name ≡ is_declared nodes name
+pub among_names : (nodes : List NodeDecl) (name : List ℕ) → is_among name (names_of nodes) ≡ is_declared nodes name
 among_names [] name = refl
 among_names (node ∷ nodes) name = ap₂ (λ here later. here || later) (bytes_same name node.name) (among_names nodes name)
 

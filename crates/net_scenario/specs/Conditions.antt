@@ -13,9 +13,11 @@ use Rattle.net_fields.specs.Word.{is_for_full}
 use Rattle.net_fields.specs.Forms.{is_text_with, as_natural}
 use Rattle.net_fields.specs.Members.{text_at, text_or, number_or, prefix_at}
 use Rattle.net_fields.specs.Objects.{has_field_that, has_other_member, has_unfit_field, is_contradictory}
+use Rattle.net_laboratory.specs.Limits.{most_links_of_node, most_links, most_keys, most_nodes, most_settles, most_turns, most_lines}
 use Rattle.net_laboratory.specs.declared.declared.LinkDecl.{LinkDecl}
 use Rattle.net_laboratory.specs.Scenario.{is_declared, is_end, is_interface, is_end_of}
-use Rattle.net_laboratory.specs.Limits.{is_among, link_record_key, prefix_record_key, keys_in, has_key_room, owners_in, has_other_owner, is_record_key, offers_in, has_offer_room, settles_in, last_tick, is_later}
+use Rattle.or_base.specs.Names.{is_among}
+use Rattle.net_laboratory.specs.Amounts.{link_record_key, prefix_record_key, keys_in, has_key_room, owners_in, has_other_owner, is_record_key, offers_in, has_offer_room, settles_in, last_tick, is_later}
 use Rattle.net_laboratory.specs.Sound.{lines_before}
 use Rattle.net_scenario.specs.Seen.{Seen, kind_in, is_empty}
 
@@ -54,7 +56,24 @@ end_field word.Sync = Some (codes "node")
 end_field word.LinkDrain = Some (codes "node")
 end_field word.Metric = Some (codes "node")
 end_field word.Script = Some (codes "from")
-end_field _ = None
+end_field word.Lab = None
+end_field word.Node = None
+end_field word.Link = None
+end_field word.Settle = None
+end_field word.Tick = None
+end_field word.Set = None
+end_field word.Own = None
+end_field word.Disown = None
+end_field word.Restart = None
+end_field word.Up = None
+end_field word.Down = None
+end_field word.Get = None
+end_field word.Drain = None
+end_field word.Advertise = None
+end_field word.Withdraw = None
+end_field word.Aggregate = None
+end_field word.Ask = None
+end_field word.Turn = None
 
 -- the link has no end at the named node
 abbrev pub is_no_end : Seen → Word → Data → Bool
@@ -76,7 +95,25 @@ unfoldable pub is_repeated : Seen → Word → Data → Bool
 is_repeated seen word.Lab d = is_some seen.kind
 is_repeated seen word.Node d = is_declared seen.nodes (text_at (codes "name") d)
 is_repeated seen word.Link d = is_interface_repeated seen d
-is_repeated seen _ d = false
+is_repeated seen word.Settle d = false
+is_repeated seen word.Tick d = false
+is_repeated seen word.Set d = false
+is_repeated seen word.Own d = false
+is_repeated seen word.Disown d = false
+is_repeated seen word.Sync d = false
+is_repeated seen word.Restart d = false
+is_repeated seen word.Up d = false
+is_repeated seen word.Down d = false
+is_repeated seen word.Script d = false
+is_repeated seen word.Get d = false
+is_repeated seen word.Drain d = false
+is_repeated seen word.LinkDrain d = false
+is_repeated seen word.Metric d = false
+is_repeated seen word.Advertise d = false
+is_repeated seen word.Withdraw d = false
+is_repeated seen word.Aggregate d = false
+is_repeated seen word.Ask d = false
+is_repeated seen word.Turn d = false
 
 -- ---- 9
 
@@ -85,7 +122,27 @@ unfoldable pub has_two_owners : Seen → Word → Data → Bool
 has_two_owners seen word.Own d =
     has_other_owner (owners_in seen.commands) (text_at (codes "key") d) (text_at (codes "node") d)
     || is_record_key (kind_in seen) seen.nodes (text_at (codes "key") d)
-has_two_owners seen _ d = false
+has_two_owners seen word.Lab d = false
+has_two_owners seen word.Node d = false
+has_two_owners seen word.Link d = false
+has_two_owners seen word.Settle d = false
+has_two_owners seen word.Tick d = false
+has_two_owners seen word.Set d = false
+has_two_owners seen word.Disown d = false
+has_two_owners seen word.Sync d = false
+has_two_owners seen word.Restart d = false
+has_two_owners seen word.Up d = false
+has_two_owners seen word.Down d = false
+has_two_owners seen word.Script d = false
+has_two_owners seen word.Get d = false
+has_two_owners seen word.Drain d = false
+has_two_owners seen word.LinkDrain d = false
+has_two_owners seen word.Metric d = false
+has_two_owners seen word.Advertise d = false
+has_two_owners seen word.Withdraw d = false
+has_two_owners seen word.Aggregate d = false
+has_two_owners seen word.Ask d = false
+has_two_owners seen word.Turn d = false
 
 -- ---- 10
 
@@ -104,47 +161,60 @@ is_prefix_too_many seen d =
 
 -- the node has all the links that it may have
 unfoldable pub is_full_at : List LinkDecl → List ℕ → Bool
-is_full_at links name = nat_le 24 (count_by (is_end name) links)
+is_full_at links name = nat_le most_links_of_node (count_by (is_end name) links)
 
 -- the link is one more than there may be, or than one of its ends may have
 abbrev pub is_link_too_many : Seen → Data → Bool
 is_link_too_many seen d =
-    nat_le 256 (length seen.links) || is_full_at seen.links (text_at (codes "a") d) || is_full_at seen.links (text_at (codes "b") d)
+    nat_le most_links (length seen.links) || is_full_at seen.links (text_at (codes "a") d) || is_full_at seen.links (text_at (codes "b") d)
 
 -- 1 for a key that isn't counted yet
-abbrev pub uncounted : List (List ℕ) → List ℕ → ℕ
-uncounted keys key = cond (is_among keys key) 0 1
+abbrev pub new_keys : List (List ℕ) → List ℕ → ℕ
+new_keys keys key = cond (is_among key keys) 0 1
 
 -- with the keys of the two records that the node publishes there are more keys than there may be
 abbrev pub are_record_keys_too_many : List (List ℕ) → List ℕ → Bool
 are_record_keys_too_many keys name =
-    nat_lt 512 (length keys + (uncounted keys (link_record_key name) + uncounted keys (prefix_record_key name)))
+    nat_lt most_keys (length keys + (new_keys keys (link_record_key name) + new_keys keys (prefix_record_key name)))
 
 -- the node is one more than there may be, or the keys of its records are too many
 abbrev pub is_node_too_many : Seen → Data → Bool
 is_node_too_many seen d =
-    nat_le 64 (length seen.nodes)
+    nat_le most_nodes (length seen.nodes)
     || (is_full (kind_in seen) && are_record_keys_too_many (keys_in (kind_in seen) seen.nodes seen.commands) (text_at (codes "name") d))
 
--- 64 nodes, 256 links and 24 at a node, 1,000 settles, 512 keys, 32 prefixes of a node, 500,000 turns
+-- one more of what the command adds is more than there may be
 unfoldable pub passes_limit : Seen → Word → Data → Bool
 passes_limit seen word.Node d = is_node_too_many seen d
 passes_limit seen word.Link d = is_link_too_many seen d
-passes_limit seen word.Settle d = nat_le 1000 (settles_in seen.commands)
+passes_limit seen word.Settle d = nat_le most_settles (settles_in seen.commands)
 passes_limit seen word.Set d = is_key_too_many seen d
 passes_limit seen word.Own d = is_key_too_many seen d
 passes_limit seen word.Advertise d = is_prefix_too_many seen d
 passes_limit seen word.Aggregate d = is_prefix_too_many seen d
-passes_limit seen word.Turn d = nat_le 500000 (length seen.turns)
-passes_limit seen _ d = false
+passes_limit seen word.Turn d = nat_le most_turns (length seen.turns)
+passes_limit seen word.Lab d = false
+passes_limit seen word.Tick d = false
+passes_limit seen word.Disown d = false
+passes_limit seen word.Sync d = false
+passes_limit seen word.Restart d = false
+passes_limit seen word.Up d = false
+passes_limit seen word.Down d = false
+passes_limit seen word.Script d = false
+passes_limit seen word.Get d = false
+passes_limit seen word.Drain d = false
+passes_limit seen word.LinkDrain d = false
+passes_limit seen word.Metric d = false
+passes_limit seen word.Withdraw d = false
+passes_limit seen word.Ask d = false
 
 abbrev pub is_turn : Word → Bool
 is_turn word.Turn = true
 is_turn _ = false
 
--- 10,000 lines that aren't turns
+-- one more line that isn't a turn is more than there may be
 abbrev pub is_line_too_many : Seen → Word → Bool
-is_line_too_many seen w = not (is_turn w) && nat_le 10000 (lines_before seen.nodes seen.links seen.commands)
+is_line_too_many seen w = not (is_turn w) && nat_le most_lines (lines_before seen.nodes seen.links seen.commands)
 
 unfoldable pub is_too_many : Seen → Word → Data → Bool
 is_too_many seen w d = is_line_too_many seen w || passes_limit seen w d

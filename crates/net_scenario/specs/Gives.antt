@@ -1,6 +1,7 @@
 -- What the readers answer is what the definitions give, unless memory runs out.
-use Rattle.std.specs.Prelude.{◌≡◌, ℕ, Result, Ok, Err, ⊤}
+use Rattle.std.specs.Prelude.{◌≡◌, Result, Ok, Err, ⊤}
 use Rattle.net_scenario.specs.declared.statement.Statement.{Statement}
+use Rattle.net_scenario.specs.declared.fault.FaultKind.{FaultKind}
 use Rattle.net_scenario.specs.declared.fault.LineRefusal.{LineRefusal}
 use Rattle.net_scenario.specs.declared.fault.LineRefusal.TheVariants as refusal
 use Rattle.net_scenario.specs.declared.fault.ScenarioFault.{ScenarioFault}
@@ -10,9 +11,9 @@ use Rattle.net_laboratory.specs.Scenario.{Laboratory}
 use Rattle.net_scenario.specs.Seen.{Seen}
 
 -- of one line
-abbrev pub Gives : Result Statement LineRefusal → Result Statement ℕ → Type 0
+abbrev pub Gives : Result Statement LineRefusal → Result Statement FaultKind → Type 0
 Gives (Ok statement) read = read ≡ Ok statement
-Gives (Err (refusal.Fault number)) read = read ≡ Err number
+Gives (Err (refusal.Fault kind)) read = read ≡ Err kind
 Gives (Err refusal.NoMemory) read = Unit {0}
 
 -- of one line, which changes what is seen

@@ -1,10 +1,7 @@
-pub mod Scenario
-pub mod Limits
-pub mod Sound
-pub mod Small
 pub mod Seen
 pub mod Conditions
 pub mod Statement
+pub mod FaultKinds
 pub mod Faults
 pub mod Language
 pub mod Gives

@@ -7,6 +7,7 @@ use Rattle.or_base.specs.declared.value.Pair.{Pair}
 use Rattle.net_fields.specs.declared.word.Word.{Word}
 use Rattle.net_fields.specs.declared.word.Word.TheVariants as word
 use Rattle.net_fields.specs.Members.{text_at, text_or, number_at, number_or, flag_at, kind_at, show_at, prefix_at, value_at, numbers_at, acts_at}
+use Rattle.net_laboratory.specs.Limits.{default_rounds, default_metric, default_path, default_source, default_distance}
 use Rattle.net_laboratory.specs.declared.declared.LinkDecl.{LinkDecl}
 use Rattle.net_laboratory.specs.declared.command.Command.{Command}
 use Rattle.net_laboratory.specs.declared.command.Command.TheVariants.{Settle, Tick, Set, Own, Disown, Sync, Restart, Up, Down, Script, Get, Drain, LinkDrain, Metric, Advertise, Withdraw, Aggregate, Ask}
@@ -38,10 +39,10 @@ unfoldable pub link_of : Data → LinkDecl
 link_of d = record {
   a = text_at (codes "a") d;
   aif = interface_a d;
-  am = small_or (codes "am") 1 d;
+  am = small_or (codes "am") default_metric d;
   b = text_at (codes "b") d;
   bif = interface_b d;
-  bm = small_or (codes "bm") 1 d;
+  bm = small_or (codes "bm") default_metric d;
 }
 
 -- the originator of a value: by default the node
@@ -60,12 +61,12 @@ pair_of d = record {
   };
 }
 
-unfoldable pub entry_of : Data → PrefixEntry
-entry_of d = record {
+unfoldable pub prefix_entry_of : Data → PrefixEntry
+prefix_entry_of d = record {
   prefix = prefix_or_any d;
-  path = small_or (codes "path") 1000 d;
-  source = small_or (codes "source") 100 d;
-  distance = small_or (codes "distance") 0 d;
+  path = small_or (codes "path") default_path d;
+  source = small_or (codes "source") default_source d;
+  distance = small_or (codes "distance") default_distance d;
 }
 
 -- what is done: the commands of full laboratories alone
@@ -73,14 +74,14 @@ unfoldable pub routing_command_of : Word → Data → Command
 routing_command_of word.Drain d = Drain (node_at d) (flag_at (codes "on") d)
 routing_command_of word.LinkDrain d = LinkDrain (node_at d) (link_at d) (flag_at (codes "on") d)
 routing_command_of word.Metric d = Metric (node_at d) (link_at d) (small_or (codes "metric") 0 d)
-routing_command_of word.Advertise d = Advertise (node_at d) (entry_of d)
+routing_command_of word.Advertise d = Advertise (node_at d) (prefix_entry_of d)
 routing_command_of word.Withdraw d = Withdraw (node_at d) (prefix_or_any d)
 routing_command_of word.Aggregate d = Aggregate (node_at d) (prefix_or_any d) (small_or (codes "min") 0 d)
 routing_command_of _ d = Ask (node_at d) (prefix_or_any d)
 
 -- what is done
 unfoldable pub command_of : Word → Data → Command
-command_of word.Settle d = Settle (number_or (codes "rounds") 1000 d) (show_at (codes "show") d)
+command_of word.Settle d = Settle (number_or (codes "rounds") default_rounds d) (show_at (codes "show") d)
 command_of word.Tick d = Tick (number_or (codes "to") 0 d)
 command_of word.Set d = Set (node_at d) (pair_of d)
 command_of word.Own d = Own (node_at d) (key_at d) (value_at d) (number_at (codes "ttl") d)

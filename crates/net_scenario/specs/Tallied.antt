@@ -4,7 +4,7 @@ use Rattle.net_scenario.specs.declared.draft.Draft.{Draft}
 use Rattle.net_laboratory.specs.declared.declared.NodeDecl.{NodeDecl}
 use Rattle.net_scenario.specs.declared.line.LineRead.{LineRead}
 use Rattle.net_scenario.specs.Faults.{Line}
-use Rattle.net_laboratory.specs.Limits.{keys_in, owners_in, offers_in, settles_in, ends_in_settle, last_tick}
+use Rattle.net_laboratory.specs.Amounts.{keys_in, owners_in, offers_in, settles_in, ends_in_settle, last_tick}
 use Rattle.net_scenario.specs.Seen.{Seen, kind_in, is_sound_so_far}
 
 abbrev pub seen_in : Draft → Seen

@@ -4,21 +4,24 @@ ghost use Rattle.std.specs.Prelude.{◌≡◌, ◌++◌, codes, not, IfOk, strin
 ghost use Rattle.std.specs.List.{count_by, list_any};
 ghost use Rattle.std.specs.Str.{bytes_eq};
 ghost use Rattle.serde_json.specs.View.{view};
-ghost use Rattle.net_fields.specs.Fields.{entry_of};
+ghost use Rattle.net_fields.specs.Fields.{field_entry};
 ghost use Rattle.net_fields.specs.Members.{text_at, number_or};
 ghost use Rattle.net_fields.specs.Objects.{meets, has_field_that};
 ghost use Rattle.net_laboratory.specs.Scenario.{is_declared, is_end, is_end_of, is_interface, has_interface};
-ghost use Rattle.net_laboratory.specs.Limits.{has_other_owner, is_of_node, is_record_key, has_offer_room};
-ghost use Rattle.net_scenario.specs.Conditions.{interface_by, interface_a, interface_b, is_interface_repeated, is_full_at, is_link_too_many, uncounted, are_record_keys_too_many, is_node_too_many, is_early, is_bad_field, is_undeclared, is_no_end, is_unknown_name, is_repeated, has_two_owners, is_key_too_many, is_prefix_too_many, passes_limit, is_line_too_many, is_too_many, is_misplaced};
+ghost use Rattle.net_laboratory.specs.Amounts.{has_other_owner, is_of_node, is_record_key, has_offer_room};
+ghost use Rattle.net_scenario.specs.Conditions.{interface_by, interface_a, interface_b, is_interface_repeated, is_full_at, is_link_too_many, new_keys, are_record_keys_too_many, is_node_too_many, is_early, is_bad_field, is_undeclared, is_no_end, is_unknown_name, is_repeated, has_two_owners, is_key_too_many, is_prefix_too_many, passes_limit, is_line_too_many, is_too_many, is_misplaced};
 ghost use Rattle.net_scenario.specs.Tallied.{seen_in, IsTallied};
 
-use crate::declared::{LinkDecl, NodeDecl};
 use crate::draft::Draft;
 use crate::names::Names;
-use crate::tally::{Offered, Owned, is_offered, record_key};
+use crate::tally::{is_offered, record_key};
 use net_fields::{
     Field, Form, Word, fields_of, has_other_member, has_unfit_field, is_contradictory, is_for_full,
     number_or, prefix_at, text_at, text_or,
+};
+use net_laboratory::{
+    KeyOwner, LinkDecl, MOST_KEYS, MOST_LINES, MOST_LINKS, MOST_LINKS_OF_NODE, MOST_NODES,
+    MOST_PREFIXES_OF_NODE, MOST_SETTLES, MOST_TURNS, NodeDecl, NodePrefix,
 };
 use or_base::{Kind, Name, NoMemory, Prefix};
 use serde_json::Value;
@@ -54,7 +57,7 @@ pub fn is_bad_field(draft: &Draft, word: Word, object: &Value) -> bool
 
 // ---- a node or a link that isn't declared
 
-/// The link with this number has no end that is this node.
+/// The link with this number has an end that is this node.
 fn is_end_of(links: &[LinkDecl], name: &str, number: u64) -> bool
     ensures { result ≡ is_end_of links.now name.now number }
 {
@@ -93,7 +96,7 @@ fn is_undeclared(draft: &Draft, form: Form, value: &Value) -> bool
 /// The field is there and names a node or a link that isn't declared.
 fn has_undeclared(draft: &Draft, field: &Field, object: &Value) -> bool
     requires { IsTallied draft.now }
-    ensures { result ≡ meets (is_undeclared (seen_in draft.now)) (view object.now) (entry_of field.now) }
+    ensures { result ≡ meets (is_undeclared (seen_in draft.now)) (view object.now) (field_entry field.now) }
 {
     match object.get(field.name) {
         Some(value) => is_undeclared(draft, field.form, value),
@@ -104,7 +107,7 @@ fn has_undeclared(draft: &Draft, field: &Field, object: &Value) -> bool
 /// Some of the fields names a node or a link that isn't declared.
 fn is_some_undeclared(draft: &Draft, fields: &[Field], object: &Value) -> bool
     requires { IsTallied draft.now }
-    ensures { result ≡ list_any (λ f. meets (is_undeclared (seen_in draft.now)) (view object.now) (entry_of f)) fields.now }
+    ensures { result ≡ list_any (λ f. meets (is_undeclared (seen_in draft.now)) (view object.now) (field_entry f)) fields.now }
 {
     let mut left = fields;
     while let Some((field, later)) = left.split_first() {
@@ -241,7 +244,7 @@ pub fn is_repeated(
 // ---- two owners
 
 /// Another node owned the key before.
-fn has_other_owner(owners: &[Owned], key: &str, node: &str) -> bool
+fn has_other_owner(owners: &[KeyOwner], key: &str, node: &str) -> bool
     ensures { result ≡ has_other_owner owners.now key.now node.now }
 {
     owners.iter().any(|owned| owned.key.as_str() == key && owned.node.as_str() != node)
@@ -300,11 +303,11 @@ fn is_key_too_many(draft: &Draft, object: &Value) -> bool
     ensures { result ≡ is_key_too_many (seen_in draft.now) (view object.now) }
 {
     let keys = &draft.tally.keys;
-    !(keys.contains(text_at(object, "key")) || keys.len() < 512)
+    !(keys.contains(text_at(object, "key")) || keys.len() < MOST_KEYS)
 }
 
 /// The prefixes of a node.
-fn offers_of(offers: &[Offered], node: &str) -> u64
+fn offers_of(offers: &[NodePrefix], node: &str) -> u64
     ensures { result ≡ count_by (λ o. bytes_eq o.node node.now) offers.now }
 {
     let mut count = 0;
@@ -317,11 +320,11 @@ fn offers_of(offers: &[Offered], node: &str) -> u64
 }
 
 /// The node has the prefix, or may have it.
-#[tactic(auto, unfolding(crate::specs::Limits::has_offer_room))]
-fn has_offer_room(offers: &[Offered], node: &str, prefix: &Prefix) -> bool
+#[tactic(auto, unfolding(net_laboratory::specs::Amounts::has_offer_room))]
+fn has_offer_room(offers: &[NodePrefix], node: &str, prefix: &Prefix) -> bool
     ensures { result ≡ has_offer_room offers.now node.now prefix.now }
 {
-    is_offered(offers, node, prefix) || offers_of(offers, node) < 32
+    is_offered(offers, node, prefix) || offers_of(offers, node) < MOST_PREFIXES_OF_NODE
 }
 
 /// The prefix is one more than the node may have.
@@ -353,21 +356,21 @@ fn links_at(links: &[LinkDecl], name: &str) -> u64
 fn is_full_at(links: &[LinkDecl], name: &str) -> bool
     ensures { result ≡ is_full_at links.now name.now }
 {
-    links_at(links, name) >= 24
+    links_at(links, name) >= MOST_LINKS_OF_NODE
 }
 
 /// The link is one more than there may be, or than one of its ends may have.
 fn is_link_too_many(draft: &Draft, object: &Value) -> bool
     ensures { result ≡ is_link_too_many (seen_in draft.now) (view object.now) }
 {
-    draft.links.len() >= 256
+    draft.links.len() >= MOST_LINKS
         || is_full_at(&draft.links, text_at(object, "a"))
         || is_full_at(&draft.links, text_at(object, "b"))
 }
 
 /// 1 for a key that isn't counted yet.
-fn uncounted(keys: &Names, key: &str) -> u128
-    ensures { result ≡ uncounted keys.now key.now }
+fn new_keys(keys: &Names, key: &str) -> u128
+    ensures { result ≡ new_keys keys.now key.now }
 {
     if keys.contains(key) { 0 } else { 1 }
 }
@@ -378,8 +381,8 @@ fn are_record_keys_too_many(alloc: Global, keys: &Names, name: &str) -> Result<b
 {
     let link_record = record_key(alloc, "adj:", name)?;
     let prefix_record = record_key(alloc, "prefix:", name)?;
-    let more = uncounted(keys, link_record.as_str()) + uncounted(keys, prefix_record.as_str());
-    Ok(keys.len() as u128 + more > 512)
+    let more = new_keys(keys, link_record.as_str()) + new_keys(keys, prefix_record.as_str());
+    Ok(keys.len() as u128 + more > MOST_KEYS as u128)
 }
 
 /// The node is one more than there may be, or the keys of its records are too many.
@@ -388,10 +391,10 @@ fn is_node_too_many(alloc: Global, draft: &Draft, object: &Value) -> Result<bool
     ensures { IfOk result (λ is. is ≡ is_node_too_many (seen_in draft.now) (view object.now)) }
 {
     let are_too_many = are_record_keys_too_many(alloc, &draft.tally.keys, text_at(object, "name"))?;
-    Ok(draft.nodes.len() >= 64 || (draft.kind() == Kind::Full && are_too_many))
+    Ok(draft.nodes.len() >= MOST_NODES || (draft.kind() == Kind::Full && are_too_many))
 }
 
-/// 64 nodes, 256 links and 24 at a node, 1,000 settles, 512 keys, 32 prefixes of a node, 500,000 turns.
+/// One more of what the command adds is more than there may be.
 #[tactic(auto, unfolding(crate::specs::Conditions::passes_limit))]
 fn passes_limit(alloc: Global, draft: &Draft, word: Word, object: &Value) -> Result<bool, NoMemory>
     requires { IsTallied draft.now }
@@ -400,21 +403,21 @@ fn passes_limit(alloc: Global, draft: &Draft, word: Word, object: &Value) -> Res
     Ok(match word {
         Word::Node => is_node_too_many(alloc, draft, object)?,
         Word::Link => is_link_too_many(draft, object),
-        Word::Settle => draft.tally.settles >= 1000,
+        Word::Settle => draft.tally.settles >= MOST_SETTLES,
         Word::Set | Word::Own => is_key_too_many(draft, object),
         Word::Advertise | Word::Aggregate => is_prefix_too_many(draft, object),
-        Word::Turn => draft.turns.len() >= 500_000,
+        Word::Turn => draft.turns.len() >= MOST_TURNS,
         _other => false,
     })
 }
 
-/// 10,000 lines that aren't turns.
+/// One more line that isn't a turn is more than there may be.
 fn is_line_too_many(draft: &Draft, word: Word) -> bool
     requires { IsTallied draft.now }
     ensures { result ≡ is_line_too_many (seen_in draft.now) word }
 {
     let declared = draft.nodes.len() as u128 + draft.links.len() as u128;
-    word != Word::Turn && 1 + declared + draft.commands.len() as u128 >= 10_000
+    word != Word::Turn && 1 + declared + draft.commands.len() as u128 >= MOST_LINES
 }
 
 /// A counted limit is passed.

@@ -5,10 +5,8 @@ ghost use Rattle.net_scenario.specs.Seen.{nothing_seen, kind_in, with_line, admi
 ghost use Rattle.net_scenario.specs.Tallied.{seen_in, IsTallied};
 ghost use Rattle.net_scenario.specs.declared.statement.Statement.TheVariants.{Lab, Node, Link, Command as SaysCommand, Turn as SaysTurn};
 
-use crate::command::Command;
-use crate::declared::{LinkDecl, NodeDecl};
 use crate::names::Names;
-use crate::schedule::Turn;
+use net_laboratory::{Command, LinkDecl, NodeDecl, Turn};
 use crate::statement::Statement;
 use crate::tally::Tally;
 use or_base::{Kind, NoMemory};

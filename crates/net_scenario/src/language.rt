@@ -4,18 +4,16 @@ ghost use Rattle.std.specs.Prelude.{◌≡◌, ◌+◌, ◌<◌, ◌≤◌, ◌�
 ghost use Rattle.net_scenario.specs.Faults.{line_of};
 ghost use Rattle.net_scenario.specs.Gives.{GivesSeen, GivesScenario};
 ghost use Rattle.net_scenario.specs.Language.{is_blank_byte, is_blank, is_all_blank, lines_in, fault_at, after_line, line_step, scenario_of};
-ghost use Rattle.net_laboratory.specs.Limits.{ends_in_settle};
-ghost use Rattle.net_scenario.specs.Seen.{closed, given, scenario_in};
+ghost use Rattle.net_laboratory.specs.Limits.{most_scenario_bytes};
+ghost use Rattle.net_laboratory.specs.Amounts.{ends_in_settle};
+ghost use Rattle.net_scenario.specs.Seen.{with_last_settle, schedule_of, scenario_in};
 ghost use Rattle.net_scenario.specs.Tallied.{seen_in, line_at, IsTallied};
 ghost use Rattle.net_scenario.specs.declared.fault.ReadRefusal.TheVariants.{Fault};
 
-use crate::command::Command;
 use crate::draft::Draft;
-use crate::fault::{LineRefusal, ReadRefusal, ScenarioFault};
+use crate::fault::{FaultKind, LineRefusal, ReadRefusal, ScenarioFault};
 use crate::line::{LineRead, read_line};
-use crate::scenario::Scenario;
-use crate::schedule::{Schedule, Turn};
-use net_fields::Show;
+use net_laboratory::{Command, DEFAULT_ROUNDS, Scenario, Schedule, Show, Turn};
 use or_base::{NoMemory, Seq};
 use std::alloc::Global;
 
@@ -61,18 +59,18 @@ fn first_line(bytes: &[u8]) -> (&[u8], &[u8])
 }
 
 /// A fault of the line.
-fn fault_at(line: &LineRead<'_>, number: u8) -> ReadRefusal
-    ensures { result ≡ Fault (fault_at line.now.number number) }
+fn fault_at(line: &LineRead<'_>, kind: FaultKind) -> ReadRefusal
+    ensures { result ≡ Fault (fault_at line.now.number kind) }
 {
     ReadRefusal::Fault(ScenarioFault {
         line: line.number,
-        number,
+        kind,
     })
 }
 
 /// Reads a line that isn't blank into the draft.
 #[tactic(auto, using(crate::proofs::Admitted::line_admitted))]
-fn read_said(alloc: Global, draft: &mut Draft, line: &LineRead<'_>) -> Result<(), ReadRefusal>
+fn read_statement(alloc: Global, draft: &mut Draft, line: &LineRead<'_>) -> Result<(), ReadRefusal>
     requires { IsTallied draft.old }
     ensures gives { GivesSeen (seen_in draft.new) result
         (after_line (seen_in draft.old) line.now.number (line_of (seen_in draft.old) line.now.turns (line_at line.now))) }
@@ -83,7 +81,7 @@ fn read_said(alloc: Global, draft: &mut Draft, line: &LineRead<'_>) -> Result<()
             draft.add(alloc, statement)?;
             Ok(())
         }
-        Err(LineRefusal::Fault { number }) => Err(fault_at(line, number)),
+        Err(LineRefusal::Fault { kind }) => Err(fault_at(line, kind)),
         Err(LineRefusal::NoMemory) => Err(ReadRefusal::NoMemory),
     }
 }
@@ -96,23 +94,23 @@ fn read_into(alloc: Global, draft: &mut Draft, line: &LineRead<'_>) -> Result<()
     ensures tallied { OnOk result (IsTallied draft.new) }
 {
     if !is_blank(line.text) {
-        return read_said(alloc, draft, line);
+        return read_statement(alloc, draft, line);
     }
     if line.is_late() {
-        return Err(fault_at(line, 11));
+        return Err(fault_at(line, FaultKind::TooLong));
     }
     Ok(())
 }
 
 /// The commands, with a settle at their end.
-fn closed(commands: Vec<Command>, is_settled: bool) -> Result<Vec<Command>, NoMemory>
+fn with_last_settle(commands: Vec<Command>, is_settled: bool) -> Result<Vec<Command>, NoMemory>
     requires { is_settled ≡ ends_in_settle commands.items }
-    ensures { IfOk result (λ all. all.items ≡ closed commands.items) }
+    ensures { IfOk result (λ all. all.items ≡ with_last_settle commands.items) }
 {
     let mut all = commands;
     if !is_settled {
         all.push(Command::Settle {
-            rounds: 1000,
+            rounds: DEFAULT_ROUNDS,
             show: Show::Both,
         })?;
     }
@@ -120,8 +118,8 @@ fn closed(commands: Vec<Command>, is_settled: bool) -> Result<Vec<Command>, NoMe
 }
 
 /// The turns, where there are some.
-fn given(turns: Vec<Turn>) -> Option<Schedule>
-    ensures { result ≡ given turns.items }
+fn schedule_of(turns: Vec<Turn>) -> Option<Schedule>
+    ensures { result ≡ schedule_of turns.items }
 {
     if turns.is_empty() {
         return None;
@@ -133,30 +131,34 @@ fn given(turns: Vec<Turn>) -> Option<Schedule>
 
 /// The scenario that the lines say.
 #[tactic(auto, unfolding(crate::specs::Seen::scenario_in), using(crate::proofs::Soundness::scenario_is_sound))]
-fn finished(draft: Draft) -> Result<Scenario, NoMemory>
+fn scenario_in(draft: Draft) -> Result<Scenario, NoMemory>
     requires { IsTallied draft }
     ensures { IfOk result (λ scenario. scenario ≡ scenario_in (seen_in draft)) }
 {
     let kind = draft.kind();
-    Ok(Scenario {
+    let commands = with_last_settle(draft.commands, draft.tally.is_settled)?;
+    Ok(Scenario::new(
         kind,
-        ttl: draft.ttl,
-        nodes: Seq::from_vec(draft.nodes),
-        links: Seq::from_vec(draft.links),
-        commands: Seq::from_vec(closed(draft.commands, draft.tally.is_settled)?),
-        turns: given(draft.turns),
-    })
+        draft.ttl,
+        Seq::from_vec(draft.nodes),
+        Seq::from_vec(draft.links),
+        Seq::from_vec(commands),
+        schedule_of(draft.turns),
+    ))
 }
 
 /// The scenario that bytes are, with turn lines only where `turns` is true; or the first faulty line with the lowest
-/// number of a fault. The time grows in proportion to the bytes, and those of a scenario are 32 MiB at most.
-#[tactic(auto, unfolding(crate::specs::Language::scenario_of), using(crate::proofs::Cuts::placed_next))]
+/// number of a fault. The time grows in proportion to the bytes, and a scenario has at most [`MOST_SCENARIO_BYTES`](net_laboratory::MOST_SCENARIO_BYTES).
+#[tactic(auto, unfolding(crate::specs::Language::scenario_of), using(crate::proofs::Cuts::lines_from_next))]
 pub fn read_scenario(alloc: Global, bytes: &[u8], turns: bool) -> Result<Scenario, ReadRefusal>
     ensures gives { GivesScenario result (scenario_of bytes.now turns) }
-    ensures few { OnOk result (length bytes.now ≤ 33554432) }
+    ensures few { OnOk result (length bytes.now ≤ most_scenario_bytes) }
 {
     if is_all_blank(bytes) {
-        return Err(ReadRefusal::Fault(ScenarioFault { line: 1, number: 3 }));
+        return Err(ReadRefusal::Fault(ScenarioFault {
+            line: 1,
+            kind: FaultKind::NoLab,
+        }));
     }
     let mut draft = Draft::new(alloc);
     let mut left = bytes;
@@ -173,5 +175,5 @@ pub fn read_scenario(alloc: Global, bytes: &[u8], turns: bool) -> Result<Scenari
         number += 1;
         left = rest;
     }
-    Ok(finished(draft)?)
+    Ok(scenario_in(draft)?)
 }

@@ -11,22 +11,17 @@ use crate::conditions::{
     has_two_owners, is_bad_field, is_misplaced, is_repeated, is_too_many, is_unknown_name,
 };
 use crate::draft::Draft;
-use crate::fault::LineRefusal;
+use crate::fault::{FaultKind, LineRefusal};
 use crate::reading::statement_of;
 use crate::statement::Statement;
 use net_fields::{
-    Word, has_bad_prefix, has_bad_script, has_long_field, is_field_missing, is_lab, object_of,
+    Word, has_bad_prefix, has_bad_script, has_long_field, is_field_missing, is_lab, object_in,
     text_of, word_in,
 };
+use net_laboratory::{MOST_LINE_BYTES, MOST_SCENARIO_BYTES};
 use or_base::NoMemory;
 use serde_json::Value;
 use std::alloc::Global;
-
-/// How many bytes a scenario has at most.
-const SCENARIO_BYTES: u64 = 33_554_432;
-
-/// How many bytes a line has at most without its LF.
-const LINE_BYTES: usize = 65_536;
 
 /// A line as it is read: its bytes without its LF, its number from 1, where it ends with its LF, and whether turn lines
 /// may stand.
@@ -43,7 +38,7 @@ impl LineRead<'_> {
     pub fn is_late(&self) -> bool
         ensures { result ≡ is_late (line_at self.now) }
     {
-        self.end > SCENARIO_BYTES
+        self.end > MOST_SCENARIO_BYTES
     }
 }
 
@@ -52,7 +47,7 @@ impl LineRead<'_> {
 fn is_too_long(line: &LineRead<'_>, word: Word, object: &Value) -> bool
     ensures { result ≡ is_too_long (line_at line.now) word (view object.now) }
 {
-    line.text.len() > LINE_BYTES || line.is_late() || has_long_field(word, object)
+    line.text.len() > MOST_LINE_BYTES || line.is_late() || has_long_field(word, object)
 }
 
 /// The fault with the lowest number of a line that is this object and names this command.
@@ -63,39 +58,39 @@ fn fault_of(
     line: &LineRead<'_>,
     word: Word,
     object: &Value,
-) -> Result<Option<u8>, NoMemory>
+) -> Result<Option<FaultKind>, NoMemory>
     requires { IsTallied draft.now }
     ensures { IfOk result (λ fault. fault ≡ command_fault (seen_in draft.now) line.now.turns (line_at line.now) word (view object.now)) }
 {
     if is_field_missing(word, object) {
-        return Ok(Some(5));
+        return Ok(Some(FaultKind::MissingField));
     }
     if is_bad_field(draft, word, object) {
-        return Ok(Some(6));
+        return Ok(Some(FaultKind::BadField));
     }
     if is_unknown_name(draft, word, object) {
-        return Ok(Some(7));
+        return Ok(Some(FaultKind::UnknownName));
     }
     if is_repeated(alloc, draft, word, object)? {
-        return Ok(Some(8));
+        return Ok(Some(FaultKind::RepeatedName));
     }
     if has_two_owners(draft, word, object) {
-        return Ok(Some(9));
+        return Ok(Some(FaultKind::TwoOwners));
     }
     if is_too_many(alloc, draft, word, object)? {
-        return Ok(Some(10));
+        return Ok(Some(FaultKind::TooMany));
     }
     if is_too_long(line, word, object) {
-        return Ok(Some(11));
+        return Ok(Some(FaultKind::TooLong));
     }
     if has_bad_prefix(word, object) {
-        return Ok(Some(12));
+        return Ok(Some(FaultKind::BadPrefix));
     }
     if has_bad_script(word, object) {
-        return Ok(Some(13));
+        return Ok(Some(FaultKind::BadScript));
     }
     if is_misplaced(draft, line.turns, word) {
-        return Ok(Some(14));
+        return Ok(Some(FaultKind::WrongKind));
     }
     Ok(None)
 }
@@ -113,7 +108,7 @@ fn read_command(
     ensures gives { Gives result (command_line (seen_in draft.now) line.now.turns (line_at line.now) word (view object.now)) }
 {
     match fault_of(alloc, draft, line, word, object)? {
-        Some(number) => Err(LineRefusal::Fault { number }),
+        Some(kind) => Err(LineRefusal::Fault { kind }),
         None => Ok(statement_of(alloc, word, object)?),
     }
 }
@@ -130,11 +125,11 @@ fn read_object(
     ensures { Gives result (object_line (seen_in draft.now) line.now.turns (line_at line.now) (view object.now)) }
 {
     if draft.kind.is_none() && !is_lab(object) {
-        return Err(LineRefusal::Fault { number: 3 });
+        return Err(LineRefusal::Fault { kind: FaultKind::NoLab });
     }
     match word_in(object) {
         Some(word) => read_command(alloc, draft, line, word, object),
-        None => Err(LineRefusal::Fault { number: 4 }),
+        None => Err(LineRefusal::Fault { kind: FaultKind::UnknownCommand }),
     }
 }
 
@@ -150,10 +145,10 @@ pub fn read_line(
 {
     let text = match text_of(line.text) {
         Some(text) => text,
-        None => return Err(LineRefusal::Fault { number: 1 }),
+        None => return Err(LineRefusal::Fault { kind: FaultKind::NotText }),
     };
-    match object_of(alloc, text)? {
+    match object_in(alloc, text)? {
         Some(object) => read_object(alloc, draft, line, &object),
-        None => Err(LineRefusal::Fault { number: 2 }),
+        None => Err(LineRefusal::Fault { kind: FaultKind::BadJson }),
     }
 }

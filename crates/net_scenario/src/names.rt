@@ -1,5 +1,6 @@
 ghost use Rattle.std.specs.Prelude.{◌≡◌, [], length, OnOk};
-ghost use Rattle.net_laboratory.specs.Limits.{is_among, with_name};
+ghost use Rattle.or_base.specs.Names.{is_among};
+ghost use Rattle.net_laboratory.specs.Amounts.{with_name};
 
 use indexmap::IndexSet;
 use or_base::NoMemory;
@@ -37,7 +38,7 @@ impl Names {
 
     /// One of them is this text.
     pub fn contains(&self, text: &str) -> bool
-        ensures { result ≡ is_among self.now text.now }
+        ensures { result ≡ is_among text.now self.now }
     {
         self.texts.contains(text)
     }

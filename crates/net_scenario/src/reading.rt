@@ -3,17 +3,18 @@
 ghost use Rattle.std.specs.Prelude.{◌≡◌, codes, IfOk};
 ghost use Rattle.serde_json.specs.View.{view};
 ghost use Rattle.net_fields.specs.Members.{text_at, value_at, number_at, acts_at, numbers_at};
-ghost use Rattle.net_scenario.specs.Statement.{small_or, node_at, key_at, link_at, prefix_or_any, link_of, originator_at, pair_of, entry_of, routing_command_of, command_of, statement_of};
+ghost use Rattle.net_scenario.specs.Statement.{small_or, node_at, key_at, link_at, prefix_or_any, link_of, originator_at, pair_of, prefix_entry_of, routing_command_of, command_of, statement_of};
 ghost use Rattle.net_laboratory.specs.declared.command.Command.TheVariants.{Own, Script};
 
-use crate::command::Command;
 use crate::conditions::{interface_a, interface_b};
-use crate::declared::{LinkDecl, NodeDecl};
-use crate::schedule::Turn;
 use crate::statement::Statement;
 use net_fields::{
     Word, acts_at, flag_at, kind_at, number_at, number_or, numbers_at, prefix_at, show_at, text_at,
     text_or, value_at,
+};
+use net_laboratory::{
+    Command, DEFAULT_DISTANCE, DEFAULT_METRIC, DEFAULT_PATH, DEFAULT_ROUNDS, DEFAULT_SOURCE, LinkDecl,
+    NodeDecl, Turn,
 };
 use or_base::{Key, KvValue, Name, NoMemory, Pair, Prefix, PrefixEntry};
 use serde_json::Value;
@@ -76,10 +77,10 @@ fn link_of(alloc: Global, object: &Value) -> Result<LinkDecl, NoMemory>
     Ok(LinkDecl {
         a: name_at(alloc, object, "a")?,
         aif: interface_a(alloc, object)?,
-        am: small_or(object, "am", 1),
+        am: small_or(object, "am", DEFAULT_METRIC),
         b: name_at(alloc, object, "b")?,
         bif: interface_b(alloc, object)?,
-        bm: small_or(object, "bm", 1),
+        bm: small_or(object, "bm", DEFAULT_METRIC),
     })
 }
 
@@ -110,15 +111,15 @@ fn pair_of(alloc: Global, object: &Value) -> Result<Pair, NoMemory>
 }
 
 /// The entry of an advertise line.
-#[tactic(auto, unfolding(crate::specs::Statement::entry_of))]
-fn entry_of(object: &Value) -> PrefixEntry
-    ensures { result ≡ entry_of (view object.now) }
+#[tactic(auto, unfolding(crate::specs::Statement::prefix_entry_of))]
+fn prefix_entry_of(object: &Value) -> PrefixEntry
+    ensures { result ≡ prefix_entry_of (view object.now) }
 {
     PrefixEntry {
         prefix: prefix_or_any(object),
-        path: small_or(object, "path", 1000),
-        source: small_or(object, "source", 100),
-        distance: small_or(object, "distance", 0),
+        path: small_or(object, "path", DEFAULT_PATH),
+        source: small_or(object, "source", DEFAULT_SOURCE),
+        distance: small_or(object, "distance", DEFAULT_DISTANCE),
     }
 }
 
@@ -168,7 +169,7 @@ fn routing_command(word: Word, node: Name, object: &Value) -> Command
         },
         Word::Advertise => Command::Advertise {
             node,
-            entry: entry_of(object),
+            entry: prefix_entry_of(object),
         },
         Word::Withdraw => Command::Withdraw {
             node,
@@ -193,7 +194,7 @@ fn command_of(alloc: Global, word: Word, object: &Value) -> Result<Command, NoMe
 {
     match word {
         Word::Settle => Ok(Command::Settle {
-            rounds: number_or(object, "rounds", 1000),
+            rounds: number_or(object, "rounds", DEFAULT_ROUNDS),
             show: show_at(object, "show"),
         }),
         Word::Tick => Ok(Command::Tick {

@@ -1,6 +1,4 @@
-use crate::command::Command;
-use crate::declared::{LinkDecl, NodeDecl};
-use crate::schedule::Turn;
+use net_laboratory::{Command, LinkDecl, NodeDecl, Turn};
 use or_base::Kind;
 
 /// What a line says.

@@ -1,33 +1,18 @@
 ghost use Rattle.std.specs.Prelude.{◌≡◌, ◌+◌, ◌<◌, ◌^◌, ◌++◌, [], None, false, OnOk, IfOk, string_bytes};
-ghost use Rattle.net_laboratory.specs.Limits.{with_key, with_owned, with_owner, with_offered, with_offer, with_record_keys, is_owned, is_offered, is_settle, after_tick, settle_count};
+ghost use Rattle.net_laboratory.specs.Amounts.{with_key, with_key_owner, with_owner, with_node_prefix, with_offer, with_record_keys, is_owned, is_offered, is_settle, after_tick, settle_count};
 
-use crate::command::Command;
-use crate::declared::NodeDecl;
 use crate::names::Names;
+use net_laboratory::{Command, KeyOwner, NodeDecl, NodePrefix};
 use or_base::{Key, Kind, Name, NoMemory, Prefix};
 use std::alloc::Global;
-
-/// A key that is owned, and the node that owned it first.
-#[derive(Drop)]
-pub struct Owned {
-    pub key: Key,
-    pub node: Name,
-}
-
-/// A prefix that a node advertises or aggregates.
-#[derive(Drop)]
-pub struct Offered {
-    pub node: Name,
-    pub prefix: Prefix,
-}
 
 /// What the declarations and commands so far amount to.
 #[derive(Drop)]
 pub struct Tally {
     /// The distinct keys.
     pub keys: Names,
-    pub owners: Vec<Owned>,
-    pub offers: Vec<Offered>,
+    pub owners: Vec<KeyOwner>,
+    pub offers: Vec<NodePrefix>,
     /// How many settles there are.
     pub settles: u64,
     /// The last command is a settle.
@@ -58,7 +43,7 @@ impl Tally {
 }
 
 /// The key is owned.
-fn is_owned(owners: &[Owned], key: &Key) -> bool
+fn is_owned(owners: &[KeyOwner], key: &Key) -> bool
     ensures { result ≡ is_owned owners.now key.now }
 {
     owners
@@ -67,11 +52,11 @@ fn is_owned(owners: &[Owned], key: &Key) -> bool
 }
 
 /// Adds the owner of a key, unless it has one.
-fn add_owned(owners: &mut Vec<Owned>, key: &Key, node: &Name) -> Result<(), NoMemory>
-    ensures { OnOk result (owners.new.items ≡ with_owned owners.old.items key.now node.now) }
+fn add_key_owner(owners: &mut Vec<KeyOwner>, key: &Key, node: &Name) -> Result<(), NoMemory>
+    ensures { OnOk result (owners.new.items ≡ with_key_owner owners.old.items key.now node.now) }
 {
     if !is_owned(owners, key) {
-        owners.push(Owned {
+        owners.push(KeyOwner {
             key: key.copied()?,
             node: node.copied()?,
         })?;
@@ -80,18 +65,18 @@ fn add_owned(owners: &mut Vec<Owned>, key: &Key, node: &Name) -> Result<(), NoMe
 }
 
 /// The node offers the prefix.
-pub fn is_offered(offers: &[Offered], node: &str, prefix: &Prefix) -> bool
+pub fn is_offered(offers: &[NodePrefix], node: &str, prefix: &Prefix) -> bool
     ensures { result ≡ is_offered offers.now node.now prefix.now }
 {
-    offers.iter().any(|offered| offered.node.as_str() == node && offered.prefix.is_same(prefix))
+    offers.iter().any(|offered| offered.node.as_str() == node && offered.prefix.is_same_prefix(prefix))
 }
 
 /// Adds a prefix of a node, unless it is there.
-fn add_offered(offers: &mut Vec<Offered>, node: &Name, prefix: &Prefix) -> Result<(), NoMemory>
-    ensures { OnOk result (offers.new.items ≡ with_offered offers.old.items node.now prefix.now) }
+fn add_node_prefix(offers: &mut Vec<NodePrefix>, node: &Name, prefix: &Prefix) -> Result<(), NoMemory>
+    ensures { OnOk result (offers.new.items ≡ with_node_prefix offers.old.items node.now prefix.now) }
 {
     if !is_offered(offers, node.as_str(), prefix) {
-        offers.push(Offered {
+        offers.push(NodePrefix {
             node: node.copied()?,
             prefix: *prefix,
         })?;
@@ -112,22 +97,22 @@ fn count_key(alloc: Global, keys: &mut Names, command: &Command) -> Result<(), N
 }
 
 /// Adds the owner that an own command names.
-fn count_owner(owners: &mut Vec<Owned>, command: &Command) -> Result<(), NoMemory>
+fn count_owner(owners: &mut Vec<KeyOwner>, command: &Command) -> Result<(), NoMemory>
     ensures { OnOk result (owners.new.items ≡ with_owner owners.old.items command.now) }
 {
     if let Command::Own { node, key, .. } = command {
-        add_owned(owners, key, node)?;
+        add_key_owner(owners, key, node)?;
     }
     Ok(())
 }
 
 /// Adds the prefix that a command advertises or aggregates.
-fn count_offer(offers: &mut Vec<Offered>, command: &Command) -> Result<(), NoMemory>
+fn count_offer(offers: &mut Vec<NodePrefix>, command: &Command) -> Result<(), NoMemory>
     ensures { OnOk result (offers.new.items ≡ with_offer offers.old.items command.now) }
 {
     match command {
-        Command::Advertise { node, entry } => add_offered(offers, node, &entry.prefix)?,
-        Command::Aggregate { node, prefix, .. } => add_offered(offers, node, prefix)?,
+        Command::Advertise { node, entry } => add_node_prefix(offers, node, &entry.prefix)?,
+        Command::Aggregate { node, prefix, .. } => add_node_prefix(offers, node, prefix)?,
         _other => {}
     }
     Ok(())

@@ -4,6 +4,7 @@ use Rattle.std.specs.Fmt.{decimal}
 use Rattle.lab_words.specs.declared.words.Words.{Words}
 use Rattle.net_scenario.specs.declared.fault.ScenarioFault.{ScenarioFault}
 use Rattle.net_laboratory.specs.Scenario.{Laboratory}
+use Rattle.net_scenario.specs.FaultKinds.{fault_number, fault_name}
 use Rattle.net_scenario.specs.Language.{scenario_of}
 use Rattle.net_record.specs.declared.record.Record.{Record}
 use Rattle.net_record.specs.Rounds.{round_robin}
@@ -12,30 +13,12 @@ use Rattle.net_report.specs.Report.{line, report}
 use Rattle.openr_lab.specs.declared.answer.Answer.{Answer}
 use Rattle.openr_lab.specs.Built.{is_built}
 
--- the name of a fault
-unfoldable pub fault_name : ℕ → List ℕ
-fault_name number =
-    if number == 1 then codes "NotText"
-    else if number == 2 then codes "BadJson"
-    else if number == 3 then codes "NoLab"
-    else if number == 4 then codes "UnknownCommand"
-    else if number == 5 then codes "MissingField"
-    else if number == 6 then codes "BadField"
-    else if number == 7 then codes "UnknownName"
-    else if number == 8 then codes "RepeatedName"
-    else if number == 9 then codes "TwoOwners"
-    else if number == 10 then codes "TooMany"
-    else if number == 11 then codes "TooLong"
-    else if number == 12 then codes "BadPrefix"
-    else if number == 13 then codes "BadScript"
-    else codes "WrongKind"
-
 -- `fault line <line> number <number> <name>`
 abbrev pub fault_text : ℕ → ℕ → List ℕ → List ℕ
 fault_text at number name = line (codes "fault line " ++ decimal at ++ codes " number " ++ decimal number ++ codes " " ++ name)
 
 unfoldable pub fault_line : ScenarioFault → List ℕ
-fault_line fault = fault_text fault.line fault.number (fault_name fault.number)
+fault_line fault = fault_text fault.line (fault_number fault.kind) (fault_name fault.kind)
 
 abbrev pub not_built_line : List ℕ
 not_built_line = line (codes "not built")

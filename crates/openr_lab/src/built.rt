@@ -3,7 +3,7 @@ ghost use Rattle.std.specs.List.{list_all};
 ghost use Rattle.openr_lab.specs.Built.{is_mode_built, is_command_built, is_lab_built, is_built};
 
 use lab_words::{Mode, Words};
-use net_scenario::{Command, Kind, Scenario};
+use net_laboratory::{Command, Kind, Scenario};
 
 /// The program has the mode.
 pub fn is_mode_built(mode: Mode) -> bool

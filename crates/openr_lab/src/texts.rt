@@ -1,7 +1,7 @@
 //! The texts of the statuses other than 0.
 
 ghost use Rattle.std.specs.Prelude.{◌≡◌, IfOk};
-ghost use Rattle.openr_lab.specs.Answer.{fault_name, fault_text, fault_line, unsettled_line};
+ghost use Rattle.openr_lab.specs.Answer.{fault_text, fault_line, unsettled_line};
 
 use net_scenario::ScenarioFault;
 use or_base::{Bytes, NoMemory};
@@ -11,29 +11,6 @@ pub const USAGE: &[u8] =
     b"usage: openr_lab [--workers n] [--size n] [--trace] replay|live|gen|check\n";
 
 pub const NOT_BUILT: &[u8] = b"not built\n";
-
-/// The name of a fault.
-#[tactic(auto, unfolding(crate::specs::Answer::fault_name))]
-fn fault_name(number: u8) -> &'static str
-    ensures { result.now ≡ fault_name number }
-{
-    match number {
-        1 => "NotText",
-        2 => "BadJson",
-        3 => "NoLab",
-        4 => "UnknownCommand",
-        5 => "MissingField",
-        6 => "BadField",
-        7 => "UnknownName",
-        8 => "RepeatedName",
-        9 => "TwoOwners",
-        10 => "TooMany",
-        11 => "TooLong",
-        12 => "BadPrefix",
-        13 => "BadScript",
-        _ => "WrongKind",
-    }
-}
 
 /// `fault line <line> number <number> <name>`
 fn fault_text(alloc: Global, line: u64, number: u64, name: &str) -> Result<Bytes, NoMemory>
@@ -53,8 +30,8 @@ pub fn fault_line(alloc: Global, fault: ScenarioFault) -> Result<Bytes, NoMemory
     Ok(fault_text(
         alloc,
         fault.line,
-        u64::from(fault.number),
-        fault_name(fault.number),
+        fault.kind.number(),
+        fault.kind.name(),
     )?)
 }
 

@@ -3,7 +3,7 @@ use Rattle.net_scenario.specs.declared.statement.Statement.TheVariants as says
 use Rattle.net_scenario.specs.Seen.{with_line, kind_in, is_sound_so_far}
 use Rattle.net_scenario.specs.Tallied.{seen_in}
 use Rattle.net_scenario.proofs.Soundness.{stays_sound}
-use Rattle.net_laboratory.specs.Limits.{with_key, keys_in, with_owner, owners_in, with_offer, offers_in, settle_count, settles_in, ends_in_settle, after_tick, last_tick}
+use Rattle.net_laboratory.specs.Amounts.{with_key, keys_in, with_owner, owners_in, with_offer, offers_in, settle_count, settles_in, ends_in_settle, after_tick, last_tick}
 use Rattle.net_scenario.proofs.Tallies.{keys_more, owners_more, offers_more, settles_more, end_more, tick_more}
 use Rattle.net_scenario.proofs.draft.Draft.add_command.Goals as goal
 

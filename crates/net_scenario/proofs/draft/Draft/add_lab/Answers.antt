@@ -3,7 +3,7 @@ use Rattle.net_scenario.specs.declared.statement.Statement.TheVariants as says
 use Rattle.net_scenario.specs.Seen.{with_line, kind_in}
 use Rattle.net_scenario.specs.Tallied.{seen_in}
 use Rattle.net_scenario.proofs.Soundness.{stays_sound}
-use Rattle.net_laboratory.specs.Limits.{keys_in}
+use Rattle.net_laboratory.specs.Amounts.{keys_in}
 use Rattle.net_scenario.proofs.Soundness.{none_before}
 use Rattle.net_scenario.proofs.Tallies.{keys_none}
 use Rattle.net_scenario.proofs.draft.Draft.add_lab.Goals as goal

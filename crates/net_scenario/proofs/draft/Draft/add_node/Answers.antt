@@ -4,7 +4,7 @@ use Rattle.net_scenario.specs.Seen.{with_line, kind_in, is_sound_so_far}
 use Rattle.net_scenario.specs.Tallied.{seen_in, names_of}
 use Rattle.net_scenario.proofs.Soundness.{stays_sound, node_is_new}
 use Rattle.std.proofs.lemmas.List.{map-append}
-use Rattle.net_laboratory.specs.Limits.{with_name, with_record_keys, keys_in}
+use Rattle.net_laboratory.specs.Amounts.{with_name, with_record_keys, keys_in}
 use Rattle.net_scenario.proofs.Lists.{with_new}
 use Rattle.net_scenario.proofs.Tallies.{among_names, keys_node_more}
 use Rattle.net_scenario.proofs.draft.Draft.add_node.Goals as goal

@@ -2,7 +2,7 @@ use Rattle.std.proofs.Common.{◌≡◌, ◌∙◌, ◌++◌, ◌∷◌, [], sym
 use Rattle.std.proofs.lemmas.List.{map-append}
 use Rattle.std.specs.List.{list_any}
 use Rattle.std.specs.Str.{bytes_eq}
-use Rattle.net_laboratory.specs.Limits.{is_among}
+use Rattle.or_base.specs.Names.{is_among}
 use Rattle.net_scenario.proofs.Lists.{list_any-map, insert_new, with_new}
 use Rattle.net_scenario.proofs.names.Names.add.Goals as goal
 
@@ -11,7 +11,7 @@ returns-in_ok-insert c =
     let texts = c.self.inside.texts.keys in
     let text = c.in_ok-from_str.field-0 in
     let same : string_bytes text ≡ c.args.text.now = search rules in
-    let absent : is_among c.args.self.now c.args.text.now ≡ false = search rules in
+    let absent : is_among c.args.text.now c.args.self.now ≡ false = search rules in
     let other : list_any (λ k. bytes_eq (string_bytes text) (string_bytes k)) texts ≡ false =
     sym (list_any-map (bytes_eq (string_bytes text)) string_bytes texts)
     ∙ ap (list_any (bytes_eq (string_bytes text))) c.self.view_is
