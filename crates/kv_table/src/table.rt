@@ -1,4 +1,4 @@
-ghost use Rattle.std.specs.Prelude.{◌≡◌, ◌++◌, ◌∷◌, [], length, IfOk, OnOk, OnErr};
+ghost use Rattle.std.specs.Prelude.{◌≡◌, ◌<◌, ◌^◌, ◌++◌, ◌∷◌, [], length, IfOk, OnOk, OnErr};
 
 use crate::expiry::{Deadline, deadlines_due};
 use crate::offered::Offered;
@@ -46,7 +46,8 @@ impl KvTable {
 
     /// Every change of the table, from the oldest to the newest.
     pub fn journal(&self) -> &[JournalEntry]
-        ensures { result.now ≡ self.now }
+        ensures entries { result.now ≡ self.now }
+        ensures small { length result.now < 2 ^ 63 }
     {
         self.entries.as_slice()
     }

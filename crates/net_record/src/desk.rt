@@ -3,7 +3,7 @@ ghost use Rattle.or_base.specs.Journal.{held_value};
 ghost use Rattle.net_record.specs.Desk.{told_to};
 
 use crate::record::AnswerDone;
-use or_base::{Asked, Item, JournalEntry, Key, KvValue, Name, NoMemory, Told, held_under};
+use or_base::{Asked, Item, JournalEntry, Key, KvValue, Name, NoMemory, Told, holds};
 use std::alloc::Global;
 use std::collections::VecDeque;
 use std::marker::Model;
@@ -54,7 +54,7 @@ fn held_at(journal: &[JournalEntry], at: u64, key: &Key) -> Result<Option<KvValu
     ensures { IfOk result (λ held. held ≡ held_value (take at journal.now) key.now) }
 {
     let entries = first_entries(journal, at);
-    match held_under(entries, key) {
+    match holds(entries, key) {
         Some(held) => Ok(Some(held.value.copied()?)),
         None => Ok(None),
     }
