@@ -2,18 +2,20 @@
 use Rattle.std.specs.Prelude.{Bool, true, false, ◌&&◌, is_none}
 use Rattle.std.specs.List.{list_all}
 use Rattle.lab_words.specs.declared.words.Mode.{Mode}
-use Rattle.lab_words.specs.declared.words.Mode.TheVariants.{Replay}
+use Rattle.lab_words.specs.declared.words.Mode.TheVariants.{Replay, Live, Gen, Check}
 use Rattle.lab_words.specs.declared.words.Words.{Words}
 use Rattle.or_base.specs.declared.kind.Kind.{Kind}
 use Rattle.or_base.specs.declared.kind.Kind.TheVariants.{Stores, Full}
 use Rattle.net_laboratory.specs.declared.command.Command.{Command}
-use Rattle.net_laboratory.specs.declared.command.Command.TheVariants.{Settle, Tick, Set, Sync, Restart, Up, Down, Script, Get}
+use Rattle.net_laboratory.specs.declared.command.Command.TheVariants.{Settle, Tick, Set, Own, Disown, Sync, Restart, Up, Down, Script, Get, Drain, LinkDrain, Metric, Advertise, Withdraw, Aggregate, Ask}
 use Rattle.net_laboratory.specs.Scenario.{Laboratory}
 
 -- the program has the mode: it replays, and does nothing else
 abbrev pub is_mode_built : Mode → Bool
 is_mode_built Replay = true
-is_mode_built _ = false
+is_mode_built Live = false
+is_mode_built Gen = false
+is_mode_built Check = false
 
 abbrev pub is_kind_built : Kind → Bool
 is_kind_built Stores = true
@@ -30,7 +32,15 @@ is_command_built (Up link) = true
 is_command_built (Down link) = true
 is_command_built (Script link from acts) = true
 is_command_built (Get node key) = true
-is_command_built _ = false
+is_command_built (Own node key value ttl) = false
+is_command_built (Disown node key) = false
+is_command_built (Drain node on) = false
+is_command_built (LinkDrain node link on) = false
+is_command_built (Metric node link metric) = false
+is_command_built (Advertise node entry) = false
+is_command_built (Withdraw node prefix) = false
+is_command_built (Aggregate node prefix least) = false
+is_command_built (Ask node prefix) = false
 
 -- stores and links, as many as a scenario may have, with no other commands and without given turns
 unfoldable pub is_lab_built : Laboratory → Bool

@@ -13,12 +13,11 @@ use Rattle.net_record.specs.Ends.{EndsDrained}
 use Rattle.net_record.specs.Fronts.{TellStores, worlds_settled}
 use Rattle.net_report.specs.Report.{line, report as report_of}
 use Rattle.openr_lab.specs.declared.answer.Answer.{Answer}
-use Rattle.openr_lab.specs.declared.streams.TheConstants.{READ_LIMIT}
-use Rattle.openr_lab.specs.Streams.{ReadWhole, WroteWhole, WroteFront}
+use Rattle.openr_lab.specs.Streams.{read_limit, ReadWhole, WroteWhole, WroteFront}
 use Rattle.openr_lab.specs.Built.{is_mode_built, is_built}
 use Rattle.openr_lab.specs.Answer.{answer_to, not_built_line}
 
--- the statuses: done, wrong words, no scenario, unsettled, want of memory, a read that failed, a write that failed
+-- the statuses: done, wrong words, no scenario, unsettled, out of memory, a read that failed, a write that failed
 abbrev pub is_status : ℕ → Bool
 is_status n = n == 0 || n == 2 || n == 3 || n == 4 || n == 5 || n == 6 || n == 7
 
@@ -57,7 +56,7 @@ pub record RefusalFailed (text : List ℕ) (left left' taken taken' : Option (Li
 pub record Read (words : Words) (left left' taken taken' : Option (List ℕ)) (status : ℕ) (run : Option Record) : Type 0 where
   pub built : is_mode_built words.mode ≡ true
   pub bytes : List ℕ
-  pub read : ReadWhole READ_LIMIT left left' bytes
+  pub read : ReadWhole read_limit left left' bytes
   pub to_end : (status ≡ 3) ⊎ ReadToEnd left left' bytes
   pub answer : status ≡ (answer_to words bytes).status
   pub written : WroteWhole taken taken' (answer_to words bytes).text
@@ -81,7 +80,7 @@ finished_run answer = if answer.status == 0 then answer.run else None
 pub record ReadFailed (words : Words) (left left' taken taken' : Option (List ℕ)) (run : Option Record) : Type 0 where
   pub built : is_mode_built words.mode ≡ true
   pub bytes : List ℕ
-  pub read : ReadWhole READ_LIMIT left left' bytes
+  pub read : ReadWhole read_limit left left' bytes
   pub written : WroteFront taken taken' (answer_to words bytes).text
   pub recorded : run ≡ finished_run (answer_to words bytes)
 

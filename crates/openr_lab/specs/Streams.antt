@@ -1,4 +1,9 @@
-use Rattle.std.specs.Prelude.{◌≡◌, ◌⊎◌, ℕ, ◌≤◌, List, [], ◌++◌, length, take, Option, Some, None}
+use Rattle.std.specs.Prelude.{◌≡◌, ◌⊎◌, ℕ, ◌+◌, ◌≤◌, List, [], ◌++◌, length, take, Option, Some, None}
+use Rattle.net_laboratory.specs.Limits.{most_scenario_bytes}
+
+-- how many bytes are read at most: one more than the greatest scenario has, so that a greater one shows
+abbrev pub read_limit : ℕ
+read_limit = most_scenario_bytes + 1
 
 -- The bytes were read from the front of what was left before, and the rest is left after: nothing, or the reading
 -- stopped at the limit. A source that doesn't tell goes on not telling.

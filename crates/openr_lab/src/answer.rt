@@ -4,7 +4,7 @@ use or_base::Bytes;
 /// What the program answers to bytes that it has read.
 #[derive(Drop)]
 pub struct Answer {
-    /// 0 done, 3 no scenario, 4 unsettled: an item still waits after the last round of a settle, or the run passed its
+    /// 0 done, 3 no scenario, 4 unsettled: an item still waits after the last round of a settle, or the run exceeded its
     /// budget.
     pub status: u8,
     /// What is written.

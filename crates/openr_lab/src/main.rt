@@ -21,14 +21,17 @@ mod tests;
 mod texts;
 mod top;
 
+ghost use Rattle.std.specs.Prelude.{◌≡◌};
+
+use ended::Ended;
 use or_base::{RealSink, RealSource};
 use std::process::ExitCode;
 use std::rt::Env;
 use std::{env, io};
 use top::openr;
 
-/// The status for want of memory.
-const WANT_OF_MEMORY: u8 = 5;
+/// The status where memory ran out.
+const OUT_OF_MEMORY: u8 = 5;
 
 /// The words after the program's name; none where one of them isn't text, since that is no word of the program's.
 fn words_given(rt: &(impl Env + AllocGlobal)) -> io::Result<Vec<String>> {
@@ -39,13 +42,20 @@ fn words_given(rt: &(impl Env + AllocGlobal)) -> io::Result<Vec<String>> {
     }
 }
 
+/// The status that the process ends with.
+fn exit_status(ended: &Ended) -> u8
+    ensures { result ≡ ended.now.status }
+{
+    ended.status
+}
+
 fn main(rt: HostRuntime) -> ExitCode {
     let words = match words_given(&rt) {
         Ok(words) => words,
-        Err(_) => return ExitCode::from(WANT_OF_MEMORY),
+        Err(_) => return ExitCode::from(OUT_OF_MEMORY),
     };
     let mut source = RealSource::new(rt.stdin());
     let mut sink = RealSink::new(rt.stdout());
     let ended = openr(rt.alloc(), words.as_slice(), &mut source, &mut sink);
-    ExitCode::from(ended.status)
+    ExitCode::from(exit_status(&ended))
 }

@@ -1,12 +1,12 @@
 ghost use Rattle.std.specs.Prelude.{◌≡◌, ℕ, ◌<◌, ◌≤◌, ◌^◌, vec_len, IfOk, OnOk, OnErr, Err};
-ghost use Rattle.openr_lab.specs.Streams.{ReadWhole, WroteWhole, WroteFront};
+ghost use Rattle.openr_lab.specs.Streams.{read_limit, ReadWhole, WroteWhole, WroteFront};
 
 use or_base::{Sink, Source, WriteFault};
 use std::alloc::Global;
 
 /// Why a source was not read to its end.
 #[derive(Clone, Copy, Debug, PartialEq, Eq)]
-pub enum ReadRefusal {
+pub enum StreamRefusal {
     /// A read failed.
     Fault,
     /// Memory ran out.
@@ -16,33 +16,33 @@ pub enum ReadRefusal {
 /// How many bytes `read_all` reads at most: one more than the largest input, so that a larger one shows.
 pub const READ_LIMIT: usize = 33_554_433;
 
-/// How many bytes one call of the source may give.
+/// How many bytes one call of the source may give. The buffer lies on the heap, so that the program needs little stack.
 const BUFFER_BYTES: usize = 65_536;
 
 /// Reads the source to its end, or until there are `READ_LIMIT` bytes.
 #[tactic(auto, using(crate::proofs::Steps::read_steps))]
-pub fn read_all<S: Source>(alloc: Global, source: &mut S) -> Result<Vec<u8>, ReadRefusal>
+pub fn read_all<S: Source>(alloc: Global, source: &mut S) -> Result<Vec<u8>, StreamRefusal>
     requires { S.faults source.old < 2 ^ 62 }
     ensures whole { IfOk result
-        (λ bytes. ReadWhole READ_LIMIT (S.left source.old) (S.left source.new) bytes.items) }
-    ensures within { IfOk result (λ bytes. vec_len bytes ≤ READ_LIMIT) }
+        (λ bytes. ReadWhole read_limit (S.left source.old) (S.left source.new) bytes.items) }
+    ensures within { IfOk result (λ bytes. vec_len bytes ≤ read_limit) }
     ensures ok { OnOk result (S.faults source.new ≡ S.faults source.old) }
-    ensures fault { result ≡ Err ReadRefusal.Fault → S.faults source.old < S.faults source.new }
-    ensures memory { result ≡ Err ReadRefusal.NoMemory → S.faults source.new ≡ S.faults source.old }
+    ensures fault { result ≡ Err StreamRefusal.Fault → S.faults source.old < S.faults source.new }
+    ensures memory { result ≡ Err StreamRefusal.NoMemory → S.faults source.new ≡ S.faults source.old }
 {
     let mut bytes = Vec::new(alloc);
-    let mut buffer = [0u8; BUFFER_BYTES];
+    let mut buffer = vec![in alloc; 0u8; BUFFER_BYTES].map_err(|_| StreamRefusal::NoMemory)?;
     while bytes.len() < READ_LIMIT {
         let room = (READ_LIMIT - bytes.len()).min(BUFFER_BYTES);
         let count = source
-            .read(&mut buffer[..room])
-            .map_err(|_| ReadRefusal::Fault)?;
+            .read(&mut buffer.as_mut_slice()[..room])
+            .map_err(|_| StreamRefusal::Fault)?;
         if count == 0 {
             return Ok(bytes);
         }
         bytes
-            .extend_from_slice(&buffer[..count])
-            .map_err(|_| ReadRefusal::NoMemory)?;
+            .extend_from_slice(&buffer.as_slice()[..count])
+            .map_err(|_| StreamRefusal::NoMemory)?;
     }
     Ok(bytes)
 }

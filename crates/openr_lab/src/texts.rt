@@ -35,7 +35,7 @@ pub fn fault_line(alloc: Global, fault: ScenarioFault) -> Result<Bytes, NoMemory
     )?)
 }
 
-/// `unsettled in settle <k>`: an item still waits after the last round of that settle, or there the run passed its
+/// `unsettled in settle <k>`: an item still waits after the last round of that settle, or there the run exceeded its
 /// budget (500,000 turns, or a weight of 2^30).
 pub fn unsettled_line(alloc: Global, settle: u64) -> Result<Bytes, NoMemory>
     ensures { IfOk result (λ text. text ≡ unsettled_line settle) }

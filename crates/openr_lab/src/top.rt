@@ -1,11 +1,12 @@
-ghost use Rattle.std.specs.Prelude.{◌≡◌, ◌≢◌, ◌<◌, ◌^◌, ◌⊎◌, IsTrue, None};
+ghost use Rattle.std.specs.Prelude.{◌≡◌, ◌≢◌, ◌<◌, ◌^◌, ◌⊎◌, IsTrue, true, None};
+ghost use Rattle.openr_lab.specs.Built.{is_mode_built};
 ghost use Rattle.openr_lab.specs.Ends.{is_status, IsAnswered, IsAsked, Answered, AnswerFailed, Done, RefusedWords, UsageFailed};
 
 use crate::answer::Answer;
 use crate::built::is_mode_built;
 use crate::ended::Ended;
 use crate::replay::answer_to;
-use crate::streams::{ReadRefusal, read_all, write_all};
+use crate::streams::{StreamRefusal, read_all, write_all};
 use crate::texts::{NOT_BUILT, USAGE};
 use lab_words::{Words, WordsFault, read_words};
 use or_base::{Sink, Source};
@@ -39,6 +40,8 @@ pub fn openr_plain<S: Source, K: Sink>(
 
     ensures memory_untaken { result.status ≡ 5 → K.taken sink.new ≡ K.taken sink.old }
     ensures memory_no_record { result.status ≡ 5 → result.run ≡ None }
+    // A read is tried only for a mode that is built.
+    ensures read_built { result.status ≡ 6 → is_mode_built words.now.mode ≡ true }
     ensures read_fault { result.status ≡ 6 → S.faults source.old < S.faults source.new }
     ensures read_untaken { result.status ≡ 6 → K.taken sink.new ≡ K.taken sink.old }
     ensures read_no_record { result.status ≡ 6 → result.run ≡ None }
@@ -57,8 +60,8 @@ pub fn openr_plain<S: Source, K: Sink>(
     }
     let bytes = match read_all(alloc, source) {
         Ok(bytes) => bytes,
-        Err(ReadRefusal::Fault) => return ended(6),
-        Err(ReadRefusal::NoMemory) => return ended(5),
+        Err(StreamRefusal::Fault) => return ended(6),
+        Err(StreamRefusal::NoMemory) => return ended(5),
     };
     let Answer { status, text, run } = match answer_to(alloc, words, bytes.as_slice()) {
         Ok(answer) => answer,
@@ -82,7 +85,7 @@ pub fn openr<S: Source, K: Sink>(
     requires sink { K.faults sink.old < 2 ^ 62 }
 
     ensures known { IsTrue (is_status result.status) }
-    // The words are wrong exactly where the status is 2, unless memory was wanted or the write failed.
+    // The words are wrong exactly where the status is 2, unless memory ran out or the write failed.
     ensures usage { result.status ≡ 2
         → RefusedWords words.now (S.left source.old) (S.left source.new) (K.taken sink.old) (K.taken sink.new) result.run }
     // The bytes decide among the statuses 0, 3 and 4; a mode that isn't built is status 3 before they are read.
@@ -93,6 +96,8 @@ pub fn openr<S: Source, K: Sink>(
 
     ensures memory_untaken { result.status ≡ 5 → K.taken sink.new ≡ K.taken sink.old }
     ensures memory_no_record { result.status ≡ 5 → result.run ≡ None }
+    // A read is tried only where the words were accepted and their mode is built.
+    ensures read_asked { result.status ≡ 6 → IsAsked words.now (λ asked. is_mode_built asked.mode ≡ true) }
     ensures read_fault { result.status ≡ 6 → S.faults source.old < S.faults source.new }
     ensures read_untaken { result.status ≡ 6 → K.taken sink.new ≡ K.taken sink.old }
     ensures read_no_record { result.status ≡ 6 → result.run ≡ None }
