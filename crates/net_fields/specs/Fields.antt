@@ -1,5 +1,5 @@
 -- The fields of each command, with what each takes.
-use Rattle.std.specs.Prelude.{ℕ, ◌^◌, List, [], ◌∷◌, codes, Bool, true, false}
+use Rattle.std.specs.Prelude.{ℕ, List, [], ◌∷◌, codes, Bool, true, false}
 use Rattle.or_base.specs.Limits.{most_node_name_bytes, most_interface_name_bytes, most_version, most_ttl_version, most_lifetime, most_metric, most_preference}
 use Rattle.net_laboratory.specs.Limits.{most_failing_calls, last_failing_call, most_rounds, most_moment, most_aggregated_routes, most_lane, most_length}
 use Rattle.net_fields.specs.declared.word.Word.{Word}

@@ -1,5 +1,5 @@
 -- A line without a fault may stand behind those before it.
-use Rattle.std.proofs.Common.{◌≡◌, ◌-◌, ◌^◌, ◌⊎◌, inl, inr, codes, ◌++◌, length, Bool, true, false, not, ◌||◌, nat_le, nat_lt, Option, Some, None, is_none, is_some, Ok, refl, ap, subst}
+use Rattle.std.proofs.Common.{◌≡◌, ◌⊎◌, inl, inr, codes, ◌++◌, length, Bool, true, false, not, ◌||◌, nat_le, nat_lt, Option, Some, None, is_none, is_some, Ok, refl, ap, subst}
 use Rattle.std.specs.List.{count_by}
 use Rattle.std.specs.Str.{bytes_eq}
 use Rattle.std.proofs.lemmas.Bool.{true≢false, or_parts}

@@ -1,5 +1,5 @@
 -- A command of a line without a fault may stand behind those before it.
-use Rattle.std.proofs.Common.{◌≡◌, ℕ, ◌+◌, ◌-◌, ◌^◌, ◌<◌, ◌≤◌, codes, List, length, Bool, true, false, not, ◌&&◌, ◌||◌, nat_le, nat_lt, slice_get, Some, is_some, refl, sym, ap, subst, arith}
+use Rattle.std.proofs.Common.{◌≡◌, ℕ, ◌+◌, ◌<◌, ◌≤◌, codes, List, length, Bool, true, false, not, ◌&&◌, ◌||◌, nat_le, nat_lt, slice_get, Some, is_some, refl, sym, ap, subst, arith}
 use Rattle.std.specs.Option.{option_map_or}
 use Rattle.std.proofs.lemmas.Bool.{true≢false, and_parts, and_from, or_parts, ltb-true}
 use Rattle.serde_json.specs.Data.{Data}

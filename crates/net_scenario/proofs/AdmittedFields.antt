@@ -1,10 +1,9 @@
 -- Of a line without a fault, nothing is wrong with any field; and what earlier lines declared keeps its limits.
-use Rattle.std.proofs.Common.{◌≡◌, ℕ, zero, suc, ◌+◌, ◌*◌, ◌/◌, ◌<◌, ◌≤◌, inl, inr, codes, List, [], ◌∷◌, ◌++◌, length, Bool, true, false, not, cond, ◌&&◌, ◌||◌, nat_le, nat_lt, slice_get, Option, Some, None, option_and_then, unwrap_or, sym, subst, arith}
-use Rattle.std.specs.List.{list_all, list_any, count_by}
+use Rattle.std.proofs.Common.{◌≡◌, ℕ, zero, suc, ◌+◌, ◌*◌, ◌/◌, ◌≤◌, inl, inr, codes, List, [], ◌∷◌, ◌++◌, length, Bool, true, false, not, cond, ◌&&◌, ◌||◌, nat_le, nat_lt, slice_get, Option, Some, None, option_and_then, unwrap_or, sym, subst, arith}
+use Rattle.std.specs.List.{list_all, list_any}
 use Rattle.std.specs.Str.{bytes_eq}
 use Rattle.std.specs.Cmp.Lexicographic.{same_text}
-use Rattle.std.proofs.lemmas.Bool.{true≢false, and_parts, and_from, or_parts, or_cases, le-leb, leb-true, ltb-true, ltb-false}
-use Rattle.std.proofs.lemmas.List.{length_push}
+use Rattle.std.proofs.lemmas.Bool.{true≢false, and_parts, and_from, or_parts, or_cases, le-leb, leb-true, ltb-false}
 use Rattle.serde_json.specs.Data.{Data}
 use Rattle.serde_json.specs.Find.{get, as_str}
 use Rattle.or_base.specs.Limits.{most_node_name_bytes, most_interface_name_bytes, most_value_bytes, is_between, is_name_byte, is_node_name, is_interface_name}
@@ -16,12 +15,11 @@ use Rattle.net_fields.specs.Members.{has, text_at, value_at}
 use Rattle.net_fields.specs.Objects.{meets, is_absent, has_other_member, has_unfit_field, is_contradictory, is_field_missing, has_field_that, has_field_with, has_bad_prefix, has_bad_script}
 use Rattle.net_fields.proofs.HexBytes.{half_said}
 use Rattle.net_laboratory.specs.declared.declared.NodeDecl.{NodeDecl}
-use Rattle.net_laboratory.specs.declared.declared.LinkDecl.{LinkDecl}
 use Rattle.net_laboratory.proofs.Room.{few, link_room}
 use Rattle.net_laboratory.specs.Limits.{most_line_bytes, most_nodes, most_failing_calls, last_failing_call, most_links, most_turns}
-use Rattle.net_laboratory.specs.Scenario.{is_declared, is_end, is_interface}
+use Rattle.net_laboratory.specs.Scenario.{is_declared}
 use Rattle.net_scenario.specs.Seen.{Seen, is_sound_so_far, is_opened, declared_by}
-use Rattle.net_laboratory.specs.Sound.{are_admitted, admits_node, admits_link, admits_command, is_lifetime, is_metric}
+use Rattle.net_laboratory.specs.Sound.{are_admitted, admits_node, admits_link, admits_command, is_lifetime}
 use Rattle.net_scenario.specs.Conditions.{is_bad_field, is_early, is_undeclared, is_no_end, is_unknown_name}
 use Rattle.net_scenario.specs.Faults.{Line, is_late, is_too_long}
 use Rattle.net_scenario.proofs.AdmittedRows.{NoFault}

@@ -1,5 +1,5 @@
 -- What is seen stays sound with each line that may stand, and the whole is a sound scenario.
-use Rattle.std.proofs.Common.{◌≡◌, ℕ, ◌+◌, ◌<◌, ◌≤◌, Bool, true, false, ◌&&◌, ◌||◌, not, nat_le, nat_lt, List, [], ◌∷◌, ◌++◌, length, Option, is_some, is_none, refl, sym, ap, ◌∙◌, arith, append_assoc, append-nil, length-append, fold, if◌then◌else◌}
+use Rattle.std.proofs.Common.{◌≡◌, ℕ, ◌+◌, Bool, true, false, ◌&&◌, ◌||◌, not, nat_le, nat_lt, List, [], ◌∷◌, ◌++◌, length, Option, is_some, is_none, refl, sym, ap, ◌∙◌, arith, append_assoc, append-nil, length-append, fold, if◌then◌else◌}
 use Rattle.std.specs.List.{list_any, list_all}
 use Rattle.std.specs.Option.{option_map_or}
 use Rattle.std.specs.Str.{bytes_eq}
@@ -14,7 +14,7 @@ use Rattle.net_scenario.specs.declared.statement.Statement.{Statement}
 use Rattle.net_scenario.specs.declared.statement.Statement.TheVariants as says
 use Rattle.net_laboratory.proofs.Room.{first_of}
 use Rattle.net_laboratory.specs.Limits.{most_links, most_nodes, most_failing_calls, last_failing_call, most_turns}
-use Rattle.net_laboratory.specs.Scenario.{Laboratory, is_declared}
+use Rattle.net_laboratory.specs.Scenario.{is_declared}
 use Rattle.net_laboratory.specs.Amounts.{is_settle, ends_in_settle}
 use Rattle.net_laboratory.specs.Sound.{Declarations, is_lifetime, is_default_settle, default_settle, are_admitted, end_in_settle, admits_node, admits_link, admits_command, is_sound}
 use Rattle.net_scenario.specs.Seen.{Seen, declared_by, is_empty, is_opened, with_last_settle, schedule_of, with_line, admits, is_sound_so_far, scenario_in}

@@ -6,9 +6,9 @@ ghost use Rattle.net_scenario.specs.Tallied.{seen_in, IsTallied};
 ghost use Rattle.net_scenario.specs.declared.statement.Statement.TheVariants.{Lab, Node, Link, Command as SaysCommand, Turn as SaysTurn};
 
 use crate::names::Names;
-use net_laboratory::{Command, LinkDecl, NodeDecl, Turn};
 use crate::statement::Statement;
 use crate::tally::Tally;
+use net_laboratory::{Command, LinkDecl, NodeDecl, Turn};
 use or_base::{Kind, NoMemory};
 use std::alloc::Global;
 

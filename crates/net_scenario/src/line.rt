@@ -125,11 +125,15 @@ fn read_object(
     ensures { Gives result (object_line (seen_in draft.now) line.now.turns (line_at line.now) (view object.now)) }
 {
     if draft.kind.is_none() && !is_lab(object) {
-        return Err(LineRefusal::Fault { kind: FaultKind::NoLab });
+        return Err(LineRefusal::Fault {
+            kind: FaultKind::NoLab,
+        });
     }
     match word_in(object) {
         Some(word) => read_command(alloc, draft, line, word, object),
-        None => Err(LineRefusal::Fault { kind: FaultKind::UnknownCommand }),
+        None => Err(LineRefusal::Fault {
+            kind: FaultKind::UnknownCommand,
+        }),
     }
 }
 
@@ -145,10 +149,14 @@ pub fn read_line(
 {
     let text = match text_of(line.text) {
         Some(text) => text,
-        None => return Err(LineRefusal::Fault { kind: FaultKind::NotText }),
+        None => return Err(LineRefusal::Fault {
+            kind: FaultKind::NotText,
+        }),
     };
     match object_in(alloc, text)? {
         Some(object) => read_object(alloc, draft, line, &object),
-        None => Err(LineRefusal::Fault { kind: FaultKind::BadJson }),
+        None => Err(LineRefusal::Fault {
+            kind: FaultKind::BadJson,
+        }),
     }
 }

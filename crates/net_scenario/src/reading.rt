@@ -13,8 +13,8 @@ use net_fields::{
     text_or, value_at,
 };
 use net_laboratory::{
-    Command, DEFAULT_DISTANCE, DEFAULT_METRIC, DEFAULT_PATH, DEFAULT_ROUNDS, DEFAULT_SOURCE, LinkDecl,
-    NodeDecl, Turn,
+    Command, DEFAULT_DISTANCE, DEFAULT_METRIC, DEFAULT_PATH, DEFAULT_ROUNDS, DEFAULT_SOURCE,
+    LinkDecl, NodeDecl, Turn,
 };
 use or_base::{Key, KvValue, Name, NoMemory, Pair, Prefix, PrefixEntry};
 use serde_json::Value;

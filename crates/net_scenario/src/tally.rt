@@ -68,11 +68,16 @@ fn add_key_owner(owners: &mut Vec<KeyOwner>, key: &Key, node: &Name) -> Result<(
 pub fn is_offered(offers: &[NodePrefix], node: &str, prefix: &Prefix) -> bool
     ensures { result ≡ is_offered offers.now node.now prefix.now }
 {
-    offers.iter().any(|offered| offered.node.as_str() == node && offered.prefix.is_same_prefix(prefix))
+    offers.iter().any(|offered| offered.node.as_str() == node
+        && offered.prefix.is_same_prefix(prefix))
 }
 
 /// Adds a prefix of a node, unless it is there.
-fn add_node_prefix(offers: &mut Vec<NodePrefix>, node: &Name, prefix: &Prefix) -> Result<(), NoMemory>
+fn add_node_prefix(
+    offers: &mut Vec<NodePrefix>,
+    node: &Name,
+    prefix: &Prefix,
+) -> Result<(), NoMemory>
     ensures { OnOk result (offers.new.items ≡ with_node_prefix offers.old.items node.now prefix.now) }
 {
     if !is_offered(offers, node.as_str(), prefix) {
