@@ -1,5 +1,5 @@
 -- What is found for an item, by whether a desk is asked by it.
-use Rattle.std.proofs.Common.{◌≡◌, ℕ, List, Option, Some, None, length, refl, ap, if◌then◌else◌}
+use Rattle.std.proofs.Common.{◌≡◌, ℕ, List, Option, Some, None, length, refl, if◌then◌else◌}
 use Rattle.std.specs.Prelude.{is_some}
 use Rattle.net_record.specs.declared.actor.ActorState.{ActorState}
 use Rattle.net_record.specs.Desk.{DeskState}

@@ -47,12 +47,12 @@ set_longer actors n after longer number =
       | inl is ↦
           elim (cases_lt n (length actors)) [
             | inl within ↦ omega (
-                arith,
-                longer,
-                ap (λ m. entries_at actors m) is,
-                ap (λ m. entries_at (set actors n after) m) is,
-                ap (λ (a : ActorState). length (entries_of a.part)) (get_or-set_same actors n after no_actor within),
-              )
+              arith,
+              longer,
+              ap (λ m. entries_at actors m) is,
+              ap (λ m. entries_at (set actors n after) m) is,
+              ap (λ (a : ActorState). length (entries_of a.part)) (get_or-set_same actors n after no_actor within),
+            )
             | inr past ↦ omega (arith, ap (λ others. entries_at others number) (set_past actors n after past))
           ]
       | inr other ↦ omega (arith, ap (λ (a : ActorState). length (entries_of a.part)) (get_or-set_other actors n number after no_actor other))

@@ -1,10 +1,10 @@
 -- A turn of a module only adds to its journal, where it is a store. A new kind adds a row to `module_grows`.
-use Rattle.std.proofs.Common.{◌≡◌, ℕ, ◌≤◌, List, [], Option, Some, None, length, refl, arith}
+use Rattle.std.proofs.Common.{ℕ, ◌≤◌, [], Option, Some, None, length, arith}
 use Rattle.std.specs.Option.{option_map_or}
 use Rattle.or_base.specs.declared.item.Item.{Item}
 use Rattle.kv_store.specs.Growth.{IsFront}
 use Rattle.kv_store.specs.Store.{StoreState}
-use Rattle.kv_store.proofs.Growth.{front_same, front_shorter, journals_grow}
+use Rattle.kv_store.proofs.Growth.{front_shorter, journals_grow}
 use Rattle.net_record.specs.declared.kinds.AnyModule.{AnyModule}
 use Rattle.net_record.specs.declared.kinds.AnyModule.TheVariants.{Store, Link}
 use Rattle.net_record.specs.declared.part.Part.{Part}

@@ -1,5 +1,5 @@
 -- A desk to which a length is shown finds it in its turn; so a part's turn is its step with that length.
-use Rattle.std.proofs.Common.{◌≡◌, ℕ, ◌-◌, ◌^◌, ◌<◌, List, [], Bool, false, ◌==◌, Option, Some, None, refl, ap, ◌∙◌, arith}
+use Rattle.std.proofs.Common.{◌≡◌, ℕ, ◌-◌, ◌^◌, ◌<◌, List, [], false, ◌==◌, Option, Some, None, refl, ap, ◌∙◌, arith}
 use Rattle.std.proofs.lemmas.Bool.{ne_eqb}
 use Rattle.or_base.specs.declared.item.Item.{Item}
 use Rattle.or_actor.specs.declared.output.Output.{Output}

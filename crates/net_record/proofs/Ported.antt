@@ -2,11 +2,11 @@
 use Rattle.std.proofs.Common.{◌≡◌, ℕ, zero, suc, ◌+◌, ◌<◌, ◌≤◌, inl, inr, List, [], ◌∷◌, ◌++◌, Option, Bool, true, false, cond, ◌&&◌, ◌==◌, Some, None, length, get_or, set, take, refl, sym, ap, ◌∙◌, arith, append_assoc}
 use Rattle.std.proofs.lemmas.Bool.{cases_eq, eq-eqb, ne_eqb}
 use Rattle.std.proofs.lemmas.List.{get_or-set_same, get_or-set_other, get_or_past, append-nil, length-take-le, take_more}
-use Rattle.std.specs.List.{flat_map, enumerate_from, position_from}
+use Rattle.std.specs.List.{enumerate_from, position_from}
 use Rattle.net_record.specs.declared.wire.Wire.{Wire}
 use Rattle.net_record.specs.Wires.{is_port, lane_of}
 use Rattle.net_record.specs.declared.ports.Port.{Port}
-use Rattle.net_record.specs.Ports.{port_if, ports_among, ports_of, lane_at_port, ArePortsOf}
+use Rattle.net_record.specs.Ports.{port_if, ports_among, lane_at_port, ArePortsOf}
 
 -- ---- finding a lane
 

@@ -1,10 +1,9 @@
 -- A run by rounds is a run under the schedule of its own turns.
-use Rattle.std.proofs.Common.{◌≡◌, ℕ, zero, suc, ◌+◌, List, [], ◌∷◌, ◌++◌, Bool, true, false, cond, ◌||◌, not, Some, None, Ok, length, map, get_or, ◌<◌, refl, sym, ◌∙◌, ap, subst, length-set}
+use Rattle.std.proofs.Common.{◌≡◌, ℕ, zero, suc, ◌+◌, List, [], ◌∷◌, ◌++◌, Bool, true, false, cond, ◌||◌, not, Some, None, Ok, length, map, refl, sym, ◌∙◌, ap, length-set}
 use Rattle.std.proofs.lemmas.List.{append-nil, length-map, length-replicate}
 use Rattle.or_actor.specs.declared.output.Output.{Output}
 use Rattle.net_laboratory.specs.declared.schedule.Turn.{Turn}
 use Rattle.net_record.specs.declared.role.Role.{Role}
-use Rattle.net_record.specs.declared.wire.Wire.{Wire}
 use Rattle.net_record.specs.declared.phase.Phase.{Phase}
 use Rattle.net_record.specs.Roles.{roles}
 use Rattle.net_record.specs.Wires.{wires}

@@ -1,5 +1,5 @@
 -- The actors: what each is, one turn of each, and what a settle makes of it.
-use Rattle.std.specs.Prelude.{ℕ, zero, suc, ◌-◌, List, [], ◌∷◌, ◌++◌, length, map, replicate, Option, Some, None, option_map, option_and_then, Bool, ◌&&◌, nat_le, slice_index_or, slice_get}
+use Rattle.std.specs.Prelude.{ℕ, zero, suc, ◌-◌, List, [], ◌++◌, length, map, replicate, Option, Some, None, option_map, option_and_then, Bool, ◌&&◌, nat_le, slice_index_or, slice_get}
 use Rattle.std.specs.Option.{option_map_or}
 use Rattle.or_base.specs.declared.entry.JournalEntry.{JournalEntry}
 use Rattle.or_base.specs.declared.item.Item.{Item}

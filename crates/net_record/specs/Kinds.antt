@@ -4,8 +4,8 @@ use Rattle.std.specs.Prelude.{ℕ, List, Option, Some, None, Bool}
 use Rattle.or_base.specs.declared.item.Item.{Item}
 use Rattle.or_actor.specs.declared.output.Output.{Output}
 use Rattle.or_actor.specs.Steps.{finds_nothing}
-use Rattle.kv_store.specs.Store.{StoreState, new_store, store_step}
-use Rattle.net_link.specs.Link.{new_link, link_step}
+use Rattle.kv_store.specs.Store.{StoreState, store_step}
+use Rattle.net_link.specs.Link.{link_step}
 use Rattle.net_record.specs.declared.kinds.AnyModule.{AnyModule}
 use Rattle.net_record.specs.declared.kinds.AnyModule.TheVariants.{Store, Link}
 

@@ -1,5 +1,5 @@
 -- The lanes of each writer by its ports: a port map, beside the list of lanes, so that no put goes through all of them.
-use Rattle.std.specs.Prelude.{◌≡◌, ℕ, ◌+◌, List, [], ◌∷◌, ◌++◌, Option, Some, None, ◌==◌, if◌then◌else◌, slice_index_or}
+use Rattle.std.specs.Prelude.{◌≡◌, ℕ, List, [], ◌∷◌, Option, Some, None, ◌==◌, if◌then◌else◌, slice_index_or}
 use Rattle.std.specs.List.{flat_map, enumerate_from}
 use Rattle.net_record.specs.declared.wire.Wire.{Wire}
 use Rattle.net_record.specs.declared.ports.Port.{Port}

@@ -59,16 +59,13 @@ entry_weight (Merged pair at origin) = key_weight pair.key + pair_weight pair
 entry_weight (Expired key at) = key_weight key
 entry_weight (Cleared at) = bare_key_weight
 
--- a route that a settle holds
-unfoldable pub held_route_weight : Route → ℕ
-held_route_weight route = bare_route_weight + hop_weight * length route.hops
-
--- a route in an item, whose prefix counts besides
+-- a route without its prefix, as a settle holds it
 unfoldable pub route_weight : Route → ℕ
-route_weight route = held_route_weight route + prefix_weight
+route_weight route = bare_route_weight + hop_weight * length route.hops
 
+-- the prefix of a route in an item counts besides
 unfoldable pub delta_weight : Delta → ℕ
-delta_weight delta = prefix_weight * length delta.del + sum_by route_weight delta.set
+delta_weight delta = prefix_weight * length delta.del + prefix_weight * length delta.set + sum_by route_weight delta.set
 
 -- ---- items
 
@@ -123,7 +120,7 @@ abbrev pub turn_weight : TurnDone → ℕ
 turn_weight t = item_weight t.item
 
 abbrev pub mark_weight : NodeMark → ℕ
-mark_weight mark = sum_by held_route_weight mark.routes
+mark_weight mark = sum_by route_weight mark.routes
 
 -- a settle weighs what the routes weigh that it holds
 unfoldable pub settle_weight : SettleDone → ℕ

@@ -11,7 +11,6 @@ use Rattle.kv_store.specs.Store.{StoreState}
 use Rattle.net_laboratory.specs.Scenario.{Laboratory}
 use Rattle.net_record.specs.declared.role.Role.{Role}
 use Rattle.net_record.specs.declared.wire.Wire.{Wire}
-use Rattle.net_record.specs.declared.part.Part.{Part}
 use Rattle.net_record.specs.declared.actor.ActorState.{ActorState}
 use Rattle.net_record.specs.declared.record.AnswerDone.{AnswerDone}
 use Rattle.net_record.specs.declared.record.NodeMark.{NodeMark}

@@ -111,13 +111,7 @@ impl Part {
 
     /// One turn, in which a desk finds a journal of the length `at`.
     #[tactic(auto, using(crate::proofs::Parts::state_shown, crate::proofs::Parts::sent_shown))]
-    pub fn take(
-        &mut self,
-        lane: u32,
-        item: Item,
-        at: u64,
-        out: &mut Outbox,
-    ) -> Result<(), NoMemory>
+    pub fn take(&mut self, lane: u32, item: Item, at: u64, out: &mut Outbox) -> Result<(), NoMemory>
         requires item { IsTrue (has_small_link item) }
         requires at { at < 2 ^ 64 - 1 }
         ensures state { OnOk result (self.new ≡ (part_step self.old lane item at).0) }

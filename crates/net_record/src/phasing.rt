@@ -102,12 +102,24 @@ fn add_issues(issues: &mut Vec<Output>, all: &[Role], command: &Command) -> Resu
         Command::Tick { to } => add_ticks(issues, *to, all)?,
         Command::Set { node, pair } => {
             let pair = pair.copied()?;
-            add_to(issues, module_number(all, NodeModule::Store, node), Item::Set { pair })?;
+            add_to(
+                issues,
+                module_number(all, NodeModule::Store, node),
+                Item::Set { pair },
+            )?;
         }
         Command::Sync { node, link } => {
-            add_to(issues, module_number(all, NodeModule::Store, node), Item::Sync { link: *link })?;
+            add_to(
+                issues,
+                module_number(all, NodeModule::Store, node),
+                Item::Sync { link: *link },
+            )?;
         }
-        Command::Restart { node } => add_to(issues, module_number(all, NodeModule::Store, node), Item::Restart)?,
+        Command::Restart { node } => add_to(
+            issues,
+            module_number(all, NodeModule::Store, node),
+            Item::Restart,
+        )?,
         Command::Up { link } => add_to(issues, link_number(all, *link), Item::Up)?,
         Command::Down { link } => add_to(issues, link_number(all, *link), Item::Down)?,
         Command::Script { link, from, acts } => {
@@ -117,7 +129,11 @@ fn add_issues(issues: &mut Vec<Output>, all: &[Role], command: &Command) -> Resu
         }
         Command::Get { node, key } => {
             let key = key.copied()?;
-            add_to(issues, module_number(all, NodeModule::Desk, node), Item::Get { key })?;
+            add_to(
+                issues,
+                module_number(all, NodeModule::Desk, node),
+                Item::Get { key },
+            )?;
         }
         // The program runs no other command yet.
         _other => {}

@@ -21,11 +21,7 @@ pub fn is_question(item: &Item) -> bool
 fn asked<'a>(part: &'a Part, item: &Item) -> Option<&'a Desk>
     ensures { option_map (λ d. d.now) result ≡ (if is_some (key_asked item.now) then desk_of part.now else None) }
 {
-    if is_question(item) {
-        part.desk()
-    } else {
-        None
-    }
+    if is_question(item) { part.desk() } else { None }
 }
 
 /// The entries of the journal of an actor; none where there is no such actor.

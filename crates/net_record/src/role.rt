@@ -21,5 +21,9 @@ pub enum Role {
         store: u32,
     },
     /// A link between the nodes a and b.
-    Link { link: u32, a: Name, b: Name },
+    Link {
+        link: u32,
+        a: Name,
+        b: Name,
+    },
 }

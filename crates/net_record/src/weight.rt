@@ -1,8 +1,8 @@
 //! What items and settles weigh. A weight is added to what was weighed before; the sum saturates at 2^64 - 1.
 
-ghost use Rattle.std.specs.Prelude.{◌≡◌, ◌+◌, ◌*◌, length, sum_by};
+ghost use Rattle.std.specs.Prelude.{◌≡◌, ◌+◌, ◌*◌, ℕ, sum_by};
 ghost use Rattle.or_base.specs.Counting.{saturate};
-ghost use Rattle.net_record.specs.Weight.{name_weight, prefix_weight, hop_weight, key_weight, pair_weight, row_weight, entry_weight, held_route_weight, route_weight, delta_weight, message_weight, parts_weight, item_weight, mark_weight, settle_weight};
+ghost use Rattle.net_record.specs.Weight.{name_weight, prefix_weight, hop_weight, key_weight, pair_weight, row_weight, entry_weight, route_weight, delta_weight, message_weight, parts_weight, item_weight, mark_weight, settle_weight};
 
 use crate::record::{NodeMark, SettleDone};
 use or_base::{Delta, DigestRow, Item, JournalEntry, Key, Msg, Pair, Route};
@@ -53,112 +53,85 @@ fn add_hops(total: u64, count: usize) -> u64
     total.saturating_add(HOP_WEIGHT.saturating_mul(count as u64))
 }
 
+/// What weighs something of its own in an item or at a settle.
+trait Weighed {
+    /// How much.
+    ghost weight: { Self → ℕ };
+
+    /// A weight and that of this.
+    fn add_to(&self, total: u64) -> u64
+        ensures { result ≡ saturate (total + weight self.now) };
+}
+
+/// A weight and that of each of these.
+#[tactic(auto, using(crate::proofs::Weighing::weigh_more))]
+fn add_all<T: Weighed>(total: u64, items: &[T]) -> u64
+    ensures { result ≡ saturate (total + sum_by T.weight items.now) }
+{
+    let mut sum = total;
+    for item in items {
+        sum = item.add_to(sum);
+    }
+    sum
+}
+
 /// A key with what it stands for.
-fn add_key(total: u64, key: &Key) -> u64
-    ensures { result ≡ saturate (total + key_weight key.now) }
-{
-    let total = add(total, BARE_KEY_WEIGHT);
-    add(total, key.as_str().len() as u64)
+impl Weighed for Key {
+    ghost weight = { key_weight };
+
+    fn add_to(&self, total: u64) -> u64 {
+        let total = add(total, BARE_KEY_WEIGHT);
+        add(total, self.as_str().len() as u64)
+    }
 }
 
-/// A pair.
-#[tactic(auto, unfolding(crate::specs::Weight::pair_weight))]
-fn add_pair(total: u64, pair: &Pair) -> u64
-    ensures { result ≡ saturate (total + pair_weight pair.now) }
-{
-    let total = add_key(total, &pair.key);
-    let total = add(total, pair.value.value.as_slice().len() as u64);
-    add(total, NAME_WEIGHT)
+impl Weighed for Pair {
+    ghost weight = { pair_weight };
+
+    #[tactic(auto, unfolding(crate::specs::Weight::pair_weight))]
+    fn add_to(&self, total: u64) -> u64 {
+        let total = self.key.add_to(total);
+        let total = add(total, self.value.value.as_slice().len() as u64);
+        add(total, NAME_WEIGHT)
+    }
 }
 
-/// A digest row.
-#[tactic(auto, unfolding(crate::specs::Weight::row_weight))]
-fn add_row(total: u64, row: &DigestRow) -> u64
-    ensures { result ≡ saturate (total + row_weight row.now) }
-{
-    let total = add_key(total, &row.key);
-    add(total, NAME_WEIGHT)
+impl Weighed for DigestRow {
+    ghost weight = { row_weight };
+
+    #[tactic(auto, unfolding(crate::specs::Weight::row_weight))]
+    fn add_to(&self, total: u64) -> u64 {
+        let total = self.key.add_to(total);
+        add(total, NAME_WEIGHT)
+    }
 }
 
 /// An entry of a journal.
-#[tactic(auto, unfolding(crate::specs::Weight::entry_weight))]
-fn add_entry(total: u64, entry: &JournalEntry) -> u64
-    ensures { result ≡ saturate (total + entry_weight entry.now) }
-{
-    match entry {
-        JournalEntry::Merged { pair, .. } => {
-            let total = add_key(total, &pair.key);
-            add_pair(total, pair)
+impl Weighed for JournalEntry {
+    ghost weight = { entry_weight };
+
+    #[tactic(auto, unfolding(crate::specs::Weight::entry_weight))]
+    fn add_to(&self, total: u64) -> u64 {
+        match self {
+            JournalEntry::Merged { pair, .. } => {
+                let total = pair.key.add_to(total);
+                pair.add_to(total)
+            }
+            JournalEntry::Expired { key, .. } => key.add_to(total),
+            JournalEntry::Cleared { .. } => add(total, BARE_KEY_WEIGHT),
         }
-        JournalEntry::Expired { key, .. } => add_key(total, key),
-        JournalEntry::Cleared { .. } => add(total, BARE_KEY_WEIGHT),
     }
 }
 
-/// A route that a settle holds.
-#[tactic(auto, unfolding(crate::specs::Weight::held_route_weight))]
-fn add_held_route(total: u64, route: &Route) -> u64
-    ensures { result ≡ saturate (total + held_route_weight route.now) }
-{
-    let total = add(total, BARE_ROUTE_WEIGHT);
-    add_hops(total, route.hops.as_slice().len())
-}
+/// A route without its prefix, as a settle holds it.
+impl Weighed for Route {
+    ghost weight = { route_weight };
 
-/// A route in an item.
-#[tactic(auto, unfolding(crate::specs::Weight::route_weight))]
-fn add_route(total: u64, route: &Route) -> u64
-    ensures { result ≡ saturate (total + route_weight route.now) }
-{
-    let total = add_held_route(total, route);
-    add(total, PREFIX_WEIGHT)
-}
-
-/// Pairs.
-#[tactic(auto, using(crate::proofs::Weighing::weigh_more))]
-fn add_pairs(total: u64, pairs: &[Pair]) -> u64
-    ensures { result ≡ saturate (total + sum_by pair_weight pairs.now) }
-{
-    let mut sum = total;
-    for pair in pairs {
-        sum = add_pair(sum, pair);
+    #[tactic(auto, unfolding(crate::specs::Weight::route_weight))]
+    fn add_to(&self, total: u64) -> u64 {
+        let total = add(total, BARE_ROUTE_WEIGHT);
+        add_hops(total, self.hops.as_slice().len())
     }
-    sum
-}
-
-/// Digest rows.
-#[tactic(auto, using(crate::proofs::Weighing::weigh_more))]
-fn add_rows(total: u64, rows: &[DigestRow]) -> u64
-    ensures { result ≡ saturate (total + sum_by row_weight rows.now) }
-{
-    let mut sum = total;
-    for row in rows {
-        sum = add_row(sum, row);
-    }
-    sum
-}
-
-/// Wanted keys.
-#[tactic(auto, using(crate::proofs::Weighing::weigh_more))]
-fn add_keys(total: u64, keys: &[Key]) -> u64
-    ensures { result ≡ saturate (total + sum_by key_weight keys.now) }
-{
-    let mut sum = total;
-    for key in keys {
-        sum = add_key(sum, key);
-    }
-    sum
-}
-
-/// Routes in an item.
-#[tactic(auto, using(crate::proofs::Weighing::weigh_more))]
-fn add_routes(total: u64, routes: &[Route]) -> u64
-    ensures { result ≡ saturate (total + sum_by route_weight routes.now) }
-{
-    let mut sum = total;
-    for route in routes {
-        sum = add_route(sum, route);
-    }
-    sum
 }
 
 /// What changed in routes.
@@ -167,7 +140,8 @@ fn add_delta(total: u64, delta: &Delta) -> u64
     ensures { result ≡ saturate (total + delta_weight delta.now) }
 {
     let total = add_prefixes(total, delta.del.as_slice().len());
-    add_routes(total, delta.set.as_slice())
+    let total = add_prefixes(total, delta.set.as_slice().len());
+    add_all(total, delta.set.as_slice())
 }
 
 /// A message, beside what its item weighs.
@@ -186,14 +160,14 @@ fn add_message(total: u64, msg: &Msg) -> u64
         Msg::Handshake { .. } => add(total, NAME_WEIGHT),
         Msg::Flood { passed, pairs } => {
             let total = add_names(total, passed.as_slice().len());
-            add_pairs(total, pairs.as_slice())
+            add_all(total, pairs.as_slice())
         }
-        Msg::Dump { digest, .. } => add_rows(total, digest.as_slice()),
+        Msg::Dump { digest, .. } => add_all(total, digest.as_slice()),
         Msg::Reply { pairs, wanted, .. } => {
-            let total = add_pairs(total, pairs.as_slice());
-            add_keys(total, wanted.as_slice())
+            let total = add_all(total, pairs.as_slice());
+            add_all(total, wanted.as_slice())
         }
-        Msg::Push { pairs, .. } => add_pairs(total, pairs.as_slice()),
+        Msg::Push { pairs, .. } => add_all(total, pairs.as_slice()),
         _ => total,
     }
 }
@@ -208,7 +182,7 @@ fn add_parts(total: u64, item: &Item) -> u64
             let total = add(total, NAME_WEIGHT);
             add(total, acts.as_slice().len() as u64)
         }
-        Item::Set { pair } => add_pair(total, pair),
+        Item::Set { pair } => pair.add_to(total),
         Item::Advertise { .. }
         | Item::Withdraw { .. }
         | Item::Aggregate { .. }
@@ -219,7 +193,7 @@ fn add_parts(total: u64, item: &Item) -> u64
             let total = add(total, NAME_WEIGHT);
             add_message(total, msg)
         }
-        Item::Entry { entry } => add_entry(total, entry),
+        Item::Entry { entry } => entry.add_to(total),
         Item::Routes { delta } => add_delta(total, delta),
         _ => total,
     }
@@ -235,25 +209,18 @@ pub fn add_item(total: u64, item: &Item) -> u64
 }
 
 /// The routes that a settle holds of a node.
-#[tactic(auto, using(crate::proofs::Weighing::weigh_more))]
-fn add_mark(total: u64, mark: &NodeMark) -> u64
-    ensures { result ≡ saturate (total + mark_weight mark.now) }
-{
-    let mut sum = total;
-    for route in mark.routes.as_slice() {
-        sum = add_held_route(sum, route);
+impl Weighed for NodeMark {
+    ghost weight = { mark_weight };
+
+    fn add_to(&self, total: u64) -> u64 {
+        add_all(total, self.routes.as_slice())
     }
-    sum
 }
 
 /// A weight and that of a settle.
-#[tactic(auto, unfolding(crate::specs::Weight::settle_weight), using(crate::proofs::Weighing::weigh_more))]
+#[tactic(auto, unfolding(crate::specs::Weight::settle_weight))]
 pub fn add_settle(total: u64, settle: &SettleDone) -> u64
     ensures { result ≡ saturate (total + settle_weight settle.now) }
 {
-    let mut sum = total;
-    for mark in settle.nodes.as_slice() {
-        sum = add_mark(sum, mark);
-    }
-    sum
+    add_all(total, settle.nodes.as_slice())
 }

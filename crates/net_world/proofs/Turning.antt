@@ -10,7 +10,6 @@ use Rattle.net_record.specs.declared.actor.ActorState.{ActorState}
 use Rattle.net_record.specs.declared.record.NodeMark.{NodeMark}
 use Rattle.net_record.specs.declared.record.SettleDone.{SettleDone}
 use Rattle.net_record.specs.declared.record.AnswerDone.{AnswerDone}
-use Rattle.or_actor.specs.Steps.{TurnMade, turn_done}
 use Rattle.net_record.specs.Actors.{no_actor, actor_at, range_for, made_by, outputs_of, actors_after_settle}
 use Rattle.net_record.specs.Answers.{giving_of}
 use Rattle.net_record.specs.World.{WorldState, turn, turn_of, turn_by, reader_of, range, range_by, waiting, is_empty, deliver, driver_clock, greatest_clock, marks_of, issue, settle}

@@ -53,11 +53,7 @@ fn settle_each(actors: &mut Vec<ActorState>, clock: u64, lengths: &[u64])
 
 /// A settle: it sets the clock of each actor, tells of the full syncs that each finished, and lets each desk see the whole
 /// journal of its node's store. Out of memory, the actors stay as they were.
-pub fn settle_all(
-    alloc: Global,
-    actors: &mut Vec<ActorState>,
-    clock: u64,
-) -> Result<(), NoMemory>
+pub fn settle_all(alloc: Global, actors: &mut Vec<ActorState>, clock: u64) -> Result<(), NoMemory>
     ensures ok { OnOk result (actors.new.items ≡ actors_after_settle clock actors.old.items) }
     ensures err { OnErr result (actors.new.items ≡ actors.old.items) }
 {

@@ -14,11 +14,11 @@ ghost use Rattle.net_world.specs.Fault.{IsFaultOf};
 use crate::fault::RunFault;
 use crate::lanes::Busy;
 use crate::world::World;
+use net_laboratory::Scenario;
 use net_record::{
     Phase, Record, desks_asked, phases, rounds_are_a_run, settled_rounds_end_drained,
     settles_tell_stores,
 };
-use net_laboratory::Scenario;
 use or_base::NoMemory;
 use std::alloc::Global;
 use std::marker::Model;

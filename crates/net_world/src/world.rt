@@ -8,11 +8,11 @@ use crate::clocks::{driver_clock, greatest_clock, settle_all};
 use crate::delivery::deliver;
 use crate::lanes::{Busy, Lanes};
 use crate::start::new_actors;
+use net_laboratory::{MOST_TURNS, Scenario};
 use net_record::{
     ActorState, MOST_WEIGHT, Record, SettleDone, TurnOutputs, Wiring, add_item, add_settle,
     journals_of, longest, marks_of, roles, wires,
 };
-use net_laboratory::{MOST_TURNS, Scenario};
 use or_actor::Output;
 use or_base::{NoMemory, Seq, TurnDone};
 use std::alloc::Global;
