@@ -21,8 +21,8 @@ mod routes;
 mod text;
 
 use crate::text::settles_text;
-use net_record::Record;
 use net_laboratory::Scenario;
+use net_record::Record;
 use or_base::NoMemory;
 use std::alloc::Global;
 

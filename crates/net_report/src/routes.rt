@@ -5,14 +5,14 @@ ghost use Rattle.net_report.specs.Report.{cost_and_hops, fib_line, fib_word, wit
 
 use net_record::NodeMark;
 use or_base::{Name, NoMemory, Prefix, Route};
-use or_prefix::print_prefix;
+use or_prefix::prefix_text;
 use std::str;
 
 /// The prefix: its address, `/` and its length.
 pub(crate) fn text_of_prefix(out: &mut String, prefix: &Prefix) -> Result<(), NoMemory>
     ensures { OnOk result (string_bytes out.new ≡ string_bytes out.old ++ text_of_prefix prefix.now) }
 {
-    let text = print_prefix(*out.allocator(), prefix)?;
+    let text = prefix_text(*out.allocator(), prefix)?;
     match str::from_utf8(text.as_slice()) {
         Ok(text) => out.push_str(text)?,
         // What is printed is UTF-8.

@@ -7,11 +7,9 @@ ghost use Rattle.net_report.specs.Report.{answer_line, held_lines, node_routes_t
 use crate::answers::answer_line;
 use crate::lines::{key_line, settle_line, store_line, sync_line, turn_line};
 use crate::routes::{fib_line, route_line, routes_line};
-use net_record::{AnswerDone, NodeMark, SettleDone};
 use net_laboratory::{Command, Kind, NodeDecl, Show};
-use or_base::{
-    JournalEntry, Name, NoMemory, Route, Seq, SyncDone, TurnDone, held_keys, holds,
-};
+use net_record::{AnswerDone, NodeMark, SettleDone};
+use or_base::{JournalEntry, Name, NoMemory, Route, Seq, SyncDone, TurnDone, held_keys, holds};
 
 /// A line for each key that the journal holds, in byte order.
 fn held_lines(out: &mut String, journal: &[JournalEntry], moment: u64) -> Result<(), NoMemory>

@@ -1,5 +1,5 @@
 -- What the program answers to the bytes that it has read.
-use Rattle.std.specs.Prelude.{ℕ, List, ◌++◌, ◌==◌, Option, Some, None, Result, Ok, Err, Bool, true, if◌then◌else◌, codes}
+use Rattle.std.specs.Prelude.{ℕ, List, ◌++◌, Option, Some, None, Result, Ok, Err, Bool, true, if◌then◌else◌, codes}
 use Rattle.std.specs.Fmt.{decimal}
 use Rattle.lab_words.specs.declared.words.Words.{Words}
 use Rattle.net_scenario.specs.declared.fault.ScenarioFault.{ScenarioFault}

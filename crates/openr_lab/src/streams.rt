@@ -16,7 +16,7 @@ pub enum StreamRefusal {
 /// How many bytes `read_all` reads at most: one more than the largest input, so that a larger one shows.
 pub const READ_LIMIT: usize = 33_554_433;
 
-/// How many bytes one call of the source may give. The buffer lies on the heap, so that the program needs little stack.
+/// How many bytes one call of the source may give.
 const BUFFER_BYTES: usize = 65_536;
 
 /// Reads the source to its end, or until there are `READ_LIMIT` bytes.
@@ -31,17 +31,17 @@ pub fn read_all<S: Source>(alloc: Global, source: &mut S) -> Result<Vec<u8>, Str
     ensures memory { result ≡ Err StreamRefusal.NoMemory → S.faults source.new ≡ S.faults source.old }
 {
     let mut bytes = Vec::new(alloc);
-    let mut buffer = vec![in alloc; 0u8; BUFFER_BYTES].map_err(|_| StreamRefusal::NoMemory)?;
+    let mut buffer = [0u8; BUFFER_BYTES];
     while bytes.len() < READ_LIMIT {
         let room = (READ_LIMIT - bytes.len()).min(BUFFER_BYTES);
         let count = source
-            .read(&mut buffer.as_mut_slice()[..room])
+            .read(&mut buffer[..room])
             .map_err(|_| StreamRefusal::Fault)?;
         if count == 0 {
             return Ok(bytes);
         }
         bytes
-            .extend_from_slice(&buffer.as_slice()[..count])
+            .extend_from_slice(&buffer[..count])
             .map_err(|_| StreamRefusal::NoMemory)?;
     }
     Ok(bytes)

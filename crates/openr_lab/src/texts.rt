@@ -27,12 +27,7 @@ fn fault_text(alloc: Global, line: u64, number: u64, name: &str) -> Result<Bytes
 pub fn fault_line(alloc: Global, fault: ScenarioFault) -> Result<Bytes, NoMemory>
     ensures { IfOk result (λ text. text ≡ fault_line fault) }
 {
-    Ok(fault_text(
-        alloc,
-        fault.line,
-        fault.kind.number(),
-        fault.kind.name(),
-    )?)
+    Ok(fault_text(alloc, fault.line, fault.kind.number(), fault.kind.name())?)
 }
 
 /// `unsettled in settle <k>`: an item still waits after the last round of that settle, or there the run exceeded its

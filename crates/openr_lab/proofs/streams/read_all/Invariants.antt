@@ -1,4 +1,5 @@
 use Rattle.std.proofs.Common.{◌≡◌, ◌-◌, ◌≤◌, vec_len}
+use Rattle.openr_lab.specs.Streams.{read_limit}
 use Rattle.openr_lab.proofs.Steps.{ReadSoFar}
 use Rattle.openr_lab.proofs.streams.read_all.Given as goal
 
@@ -6,9 +7,9 @@ use Rattle.openr_lab.proofs.streams.read_all.Given as goal
 abbrev pub invariant-loop-buffer : goal.invariant-loop-buffer
 invariant-loop-buffer g l = record {
   faults : g.S.Source.faults l.source ≡ g.S.Source.faults l.fn.source;
-  within : vec_len l.bytes ≤ 33554433;
+  within : vec_len l.bytes ≤ read_limit;
   so_far : ReadSoFar (g.S.Source.left l.fn.source) (g.S.Source.left l.source) l.bytes.items;
 }
 
 abbrev pub decreases-loop-buffer : goal.decreases-loop-buffer
-decreases-loop-buffer g l = 33554433 - vec_len l.bytes
+decreases-loop-buffer g l = read_limit - vec_len l.bytes
