@@ -19,7 +19,7 @@ use Rattle.net_record.specs.declared.actor.ActorState.{ActorState}
 use Rattle.net_record.specs.declared.record.AnswerDone.{AnswerDone}
 use Rattle.net_record.specs.Roles.{roles}
 use Rattle.net_record.specs.Wires.{wires}
-use Rattle.net_record.specs.Desk.{DeskState, told_to, answer_to, with_question}
+use Rattle.net_record.specs.Desk.{DeskState, told_to, question_answer, with_question}
 use Rattle.net_record.specs.Actors.{no_actor, made_at, range_asked, answer_of}
 use Rattle.net_record.specs.Answers.{give, giving_of}
 
@@ -117,5 +117,5 @@ answer node told = record { node = node; asked = Key (codes "x"); told = told }
 
 pub give-order : (giving_of asked_actors (2 ∷ 1 ∷ 2 ∷ [])).answers
     ≡ answer (codes "b") (Value (value_of 2)) ∷ answer (codes "a") Nothing ∷ answer (codes "b") (Behind 1) ∷ []
-unfolding give answer_of answer_to told_to
+unfolding give answer_of question_answer told_to
 give-order = refl

@@ -8,7 +8,7 @@ use Rattle.or_base.specs.declared.item.Item.{Item}
 use Rattle.or_base.specs.declared.item.Stamped.{Stamped}
 use Rattle.or_actor.specs.declared.output.Output.{Output}
 use Rattle.or_actor.specs.Steps.{TurnMade}
-use Rattle.net_record.specs.declared.role.NodeModule.TheVariants.{Store as StoreRole, Desk as DeskRole}
+use Rattle.net_record.specs.declared.role.NodeModule.TheVariants.{Desk as DeskRole}
 use Rattle.net_record.specs.declared.role.Role.{Role}
 use Rattle.net_record.specs.declared.role.Role.TheVariants.{Driver as DriverRole, Node, Link as LinkRole}
 use Rattle.net_record.specs.declared.part.Part.{Part}
@@ -144,8 +144,8 @@ range_holds w lane h =
 
 new_within : (actors : List ActorState) (role : Role) → FoundWithin actors (desk_of (new_part role))
 new_within actors DriverRole = tt
-new_within actors (Node StoreRole node store) = tt
 new_within actors (Node DeskRole node store) = omega arith
+new_within actors (Node _ node store) = tt
 new_within actors (LinkRole link a b) = tt
 
 starts_within : (actors : List ActorState) (all : List Role) (number : ℕ) → FoundWithin actors (desk_of (actor_at (map new_actor all) number).part)

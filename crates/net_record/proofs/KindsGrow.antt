@@ -1,4 +1,4 @@
--- A turn of a module only adds to its journal, where it is a store. A new kind adds a row to `module_grows`.
+-- A turn of a module only adds to its journal, where it is a store; every other kind has none.
 use Rattle.std.proofs.Common.{ℕ, ◌≤◌, [], Option, Some, None, length, arith}
 use Rattle.std.specs.Option.{option_map_or}
 use Rattle.or_base.specs.declared.item.Item.{Item}
@@ -6,7 +6,7 @@ use Rattle.kv_store.specs.Growth.{IsFront}
 use Rattle.kv_store.specs.Store.{StoreState}
 use Rattle.kv_store.proofs.Growth.{front_shorter, journals_grow}
 use Rattle.net_record.specs.declared.kinds.AnyModule.{AnyModule}
-use Rattle.net_record.specs.declared.kinds.AnyModule.TheVariants.{Store, Link}
+use Rattle.net_record.specs.declared.kinds.AnyModule.TheVariants.{Store}
 use Rattle.net_record.specs.declared.part.Part.{Part}
 use Rattle.net_record.specs.declared.part.Part.TheVariants.{Driver, Desk, Module}
 use Rattle.net_record.specs.Kinds.{module_step, store_in}
@@ -22,7 +22,7 @@ Grows (Some s) (Some t) = IsFront s.journal t.journal
 module_grows : (m : AnyModule) (lane : ℕ) (item : Item) → Grows (store_in m) (store_in (module_step m lane item).0)
 unfolding module_step
 module_grows (Store s) lane item = journals_grow s item
-module_grows (Link s) lane item = tt
+module_grows _ lane item = tt
 
 pub part_grows : (part : Part) (lane : ℕ) (item : Item) (at : ℕ) → Grows (store_of part) (store_of (part_step part lane item at).0)
 unfolding part_step

@@ -18,7 +18,7 @@ use Rattle.net_record.specs.declared.part.Part.TheVariants.{Driver, Desk, Module
 use Rattle.net_record.specs.declared.actor.ActorState.{ActorState}
 use Rattle.net_record.specs.declared.record.AnswerDone.{AnswerDone}
 use Rattle.net_record.specs.Kinds.{module_step, module_may_find, store_in}
-use Rattle.net_record.specs.Desk.{DeskState, new_desk, key_asked, desk_after, desk_may_find, desk_shown, desk_finds, answer_to, without_question, desk_after_settle}
+use Rattle.net_record.specs.Desk.{DeskState, new_desk, key_asked, desk_after, desk_may_find, desk_shown, desk_finds, question_answer, without_question, desk_after_settle}
 
 -- ---- what an actor is
 
@@ -167,7 +167,7 @@ actors_after_settle clock actors = map (actor_after_settle clock (journal_length
 
 -- the answer to the oldest question of a desk, which the settle reads from its store; whatever is no desk has none
 abbrev pub answer_of_desk : List ActorState → DeskState → Option AnswerDone
-answer_of_desk actors d = option_map (answer_to d (entries_of (actor_at actors d.store).part)) (slice_get d.questions 0)
+answer_of_desk actors d = option_map (question_answer d (entries_of (actor_at actors d.store).part)) (slice_get d.questions 0)
 
 unfoldable pub answer_of : List ActorState → Part → Option AnswerDone
 answer_of actors part = option_and_then (answer_of_desk actors) (desk_of part)

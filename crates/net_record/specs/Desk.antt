@@ -106,8 +106,8 @@ told_of (Some value) = Value value
 unfoldable pub told_to : List JournalEntry → Question → Told
 told_to journal q = if nat_lt q.at q.seen then Behind q.at else told_of (held_value (take q.at journal) q.key)
 
-unfoldable pub answer_to : DeskState → List JournalEntry → Question → AnswerDone
-answer_to d journal q = record { node = d.node; asked = Key q.key; told = told_to journal q }
+unfoldable pub question_answer : DeskState → List JournalEntry → Question → AnswerDone
+question_answer d journal q = record { node = d.node; asked = Key q.key; told = told_to journal q }
 
 -- a desk without its oldest question
 abbrev pub without_question : DeskState → DeskState

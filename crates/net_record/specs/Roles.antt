@@ -24,12 +24,12 @@ is_same_module Desk Desk = true
 is_same_module _ _ = false
 
 -- the number of the first of these that passes a test; where none does, how many there are
-abbrev pub number_of : {A : Type 0} → (A → Bool) → List A → ℕ
-number_of test all = position_or_len test all
+abbrev pub first_place : {A : Type 0} → (A → Bool) → List A → ℕ
+first_place test all = position_or_len test all
 
 -- the actor number of the store of a node, which is named by its place among the nodes
 abbrev pub store_number : List NodeModule → ℕ → ℕ
-store_number modules place = 1 + place * length modules + number_of (is_same_module Store) modules
+store_number modules place = 1 + place * length modules + first_place (is_same_module Store) modules
 
 -- the modules of a node, which is given with its place among the nodes
 abbrev pub node_roles : List NodeModule → ℕ × NodeDecl → List Role
@@ -58,14 +58,14 @@ is_module m name (Node other node store) = is_same_module m other && bytes_eq no
 is_module m name (Link link a b) = false
 
 -- the actor is the link with this number
-abbrev pub is_link : ℕ → Role → Bool
-is_link number Driver = false
-is_link number (Node m node store) = false
-is_link number (Link link a b) = link == number
+abbrev pub is_link_numbered : ℕ → Role → Bool
+is_link_numbered number Driver = false
+is_link_numbered number (Node m node store) = false
+is_link_numbered number (Link link a b) = link == number
 
 -- the actor number of a module of the node with this name, and that of a link
 abbrev pub module_number : List Role → NodeModule → List ℕ → ℕ
-module_number all m name = number_of (is_module m name) all
+module_number all m name = first_place (is_module m name) all
 
 abbrev pub link_number : List Role → ℕ → ℕ
-link_number all link = number_of (is_link link) all
+link_number all link = first_place (is_link_numbered link) all

@@ -32,8 +32,8 @@ has_items_within _ _ = false
 
 -- ---- who has items for whom
 
-abbrev pub is_end_of : List ℕ → List ℕ → List ℕ → Bool
-is_end_of node a b = bytes_eq node a || bytes_eq node b
+abbrev pub is_link_end : List ℕ → List ℕ → List ℕ → Bool
+is_link_end node a b = bytes_eq node a || bytes_eq node b
 
 -- an actor of the first role has items for one of the second
 abbrev pub has_items_for : Role → Role → Bool
@@ -42,9 +42,9 @@ has_items_for Driver (Node m node store) = is_driven m
 has_items_for Driver (Link link a b) = true
 has_items_for (Node m node store) Driver = false
 has_items_for (Node m node store) (Node other name place) = bytes_eq node name && has_items_within m other
-has_items_for (Node m node store) (Link link a b) = meets_links m && is_end_of node a b
+has_items_for (Node m node store) (Link link a b) = meets_links m && is_link_end node a b
 has_items_for (Link link a b) Driver = false
-has_items_for (Link link a b) (Node m node store) = meets_links m && is_end_of node a b
+has_items_for (Link link a b) (Node m node store) = meets_links m && is_link_end node a b
 has_items_for (Link link a b) (Link other c d) = false
 
 -- ---- by which port

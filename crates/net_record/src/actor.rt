@@ -85,7 +85,7 @@ impl ActorState {
         requires { (n : _) → slice_index_or lengths.now n 0 < 2 ^ 64 - 1 }
         ensures { self.new ≡ actor_after_settle clock lengths.now self.old }
     {
-        self.told = self.part.finished();
+        self.told = self.part.finished_syncs();
         self.part.settle(lengths);
         self.clock = clock;
     }

@@ -75,7 +75,7 @@ fn told_to(journal: &[JournalEntry], question: &Question) -> Result<Told, NoMemo
 }
 
 impl Desk {
-    ghost use Rattle.net_record.specs.Desk.{new_desk, with_question, desk_after, desk_finds, desk_may_find, desk_shown, desk_after_settle, answer_to, without_question};
+    ghost use Rattle.net_record.specs.Desk.{new_desk, with_question, desk_after, desk_finds, desk_may_find, desk_shown, desk_after_settle, question_answer, without_question};
 
     /// The desk of a node as it starts, where the node's store is the actor with this number. It takes no memory.
     pub fn new(alloc: Global, node: Name, store: u32) -> Desk
@@ -149,9 +149,9 @@ impl Desk {
     }
 
     /// The answer to its oldest question, if there is one, by the journal of its node's store.
-    #[tactic(auto, unfolding(crate::specs::Desk::answer_to))]
+    #[tactic(auto, unfolding(crate::specs::Desk::question_answer))]
     pub fn answer(&self, journal: &[JournalEntry]) -> Result<Option<AnswerDone>, NoMemory>
-        ensures { IfOk result (λ answer. answer ≡ option_map (answer_to self.now journal.now) (slice_get self.now.questions 0)) }
+        ensures { IfOk result (λ answer. answer ≡ option_map (question_answer self.now journal.now) (slice_get self.now.questions 0)) }
     {
         let Some(question) = self.questions.front() else {
             return Ok(None);

@@ -1,7 +1,7 @@
 ghost use Rattle.std.specs.Prelude.{◌≡◌, ◌+◌, ◌*◌, ◌≤◌, ◌<◌, ◌^◌, ◌++◌, All, length, map, vec_len, IfOk, OnOk};
 ghost use Rattle.std.specs.List.{flat_map, enumerate_from};
 ghost use Rattle.net_laboratory.specs.Limits.{most_nodes, most_links};
-ghost use Rattle.net_record.specs.Roles.{modules_of, is_same_module, number_of, store_number, node_roles, link_role, roles, most_modules, most_actors, is_module, is_link, module_number, link_number};
+ghost use Rattle.net_record.specs.Roles.{modules_of, is_same_module, first_place, store_number, node_roles, link_role, roles, most_modules, most_actors, is_module, is_link_numbered, module_number, link_number};
 ghost use Rattle.net_record.specs.declared.role.NodeModule.TheVariants.{Store};
 ghost use Rattle.net_record.specs.Small.{HasSmallNumber};
 
@@ -43,7 +43,7 @@ fn is_same_module(module_: NodeModule, other: NodeModule) -> bool
 
 /// The place of the store among the modules of a node.
 fn store_place(modules: &[NodeModule]) -> usize
-    ensures place { result ≡ number_of (is_same_module Store) modules.now }
+    ensures place { result ≡ first_place (is_same_module Store) modules.now }
     ensures within { result ≤ length modules.now }
 {
     for (place, module_) in modules.iter().enumerate() {
@@ -141,8 +141,8 @@ fn is_module(module_: NodeModule, name: &Name, role: &Role) -> bool
 }
 
 /// The actor is the link with this number.
-fn is_link(number: u32, role: &Role) -> bool
-    ensures { result ≡ is_link number role.now }
+fn is_link_numbered(number: u32, role: &Role) -> bool
+    ensures { result ≡ is_link_numbered number role.now }
 {
     match role {
         Role::Link { link, .. } => *link == number,
@@ -169,7 +169,7 @@ pub fn link_number(all: &[Role], link: u32) -> u32
     ensures { result ≡ link_number all.now link }
 {
     for (number, role) in all.iter().enumerate() {
-        if is_link(link, role) {
+        if is_link_numbered(link, role) {
             return number as u32;
         }
     }

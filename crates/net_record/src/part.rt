@@ -88,7 +88,7 @@ impl Part {
     }
 
     /// How many full syncs that it started were finished, where it is a store. It takes no memory.
-    pub fn finished(&self) -> u64
+    pub fn finished_syncs(&self) -> u64
         ensures { result ≡ finished_by self.now }
     {
         match self.store() {

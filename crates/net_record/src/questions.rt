@@ -18,7 +18,7 @@ pub fn is_question(item: &Item) -> bool
 }
 
 /// The desk that is asked by the item, where an actor is one and the item is a question.
-fn asked<'a>(part: &'a Part, item: &Item) -> Option<&'a Desk>
+fn asked_desk<'a>(part: &'a Part, item: &Item) -> Option<&'a Desk>
     ensures { option_map (λ d. d.now) result ≡ (if is_some (key_asked item.now) then desk_of part.now else None) }
 {
     if is_question(item) { part.desk() } else { None }
@@ -41,7 +41,7 @@ pub fn longest(actors: &[ActorState], part: &Part, item: &Item) -> u64
     ensures most { result ≡ (range_for actors.now part.now item.now).most }
     ensures small { result < 2 ^ 63 }
 {
-    match asked(part, item) {
+    match asked_desk(part, item) {
         Some(desk) => entries_at(actors, desk.store()).len() as u64,
         None => 0,
     }
@@ -53,7 +53,7 @@ pub fn longest(actors: &[ActorState], part: &Part, item: &Item) -> u64
 pub fn made_for(actors: &[ActorState], part: &Part, item: &Item, at: u64) -> u64
     ensures { result ≡ made_for actors.now part.now item.now at }
 {
-    let Some(desk) = asked(part, item) else {
+    let Some(desk) = asked_desk(part, item) else {
         return 0;
     };
     match actors.get(desk.store() as usize) {

@@ -1,6 +1,6 @@
 ghost use Rattle.std.specs.Prelude.{◌≡◌, ◌+◌, ◌*◌, ◌≤◌, ◌<◌, ◌^◌, ◌++◌, ℕ, All, length, vec_len, IfOk, OnOk};
 ghost use Rattle.net_record.specs.Roles.{most_actors};
-ghost use Rattle.net_record.specs.Wires.{is_driven, meets_links, port_of_module, has_items_within, is_end_of, has_items_for, port_from_node, port_from_link, port_of, wire_between, wires_to, wires};
+ghost use Rattle.net_record.specs.Wires.{is_driven, meets_links, port_of_module, has_items_within, is_link_end, has_items_for, port_from_node, port_from_link, port_of, wire_between, wires_to, wires};
 ghost use Rattle.net_record.specs.Small.{HasSmallNumber};
 ghost use Rattle.net_record.specs.Wired.{JoinsBelow};
 
@@ -49,8 +49,8 @@ fn has_items_within(from: NodeModule, to: NodeModule) -> bool
 }
 
 /// The node is an end of a link between a and b.
-fn is_end_of(node: &Name, a: &Name, b: &Name) -> bool
-    ensures { result ≡ is_end_of node.now a.now b.now }
+fn is_link_end(node: &Name, a: &Name, b: &Name) -> bool
+    ensures { result ≡ is_link_end node.now a.now b.now }
 {
     node.as_str() == a.as_str() || node.as_str() == b.as_str()
 }
@@ -71,10 +71,10 @@ fn has_items_for(from: &Role, to: &Role) -> bool
             },
         ) => node.as_str() == name.as_str() && has_items_within(*module, *other),
         (Role::Node { module, node, .. }, Role::Link { a, b, .. }) => {
-            meets_links(*module) && is_end_of(node, a, b)
+            meets_links(*module) && is_link_end(node, a, b)
         }
         (Role::Link { a, b, .. }, Role::Node { module, node, .. }) => {
-            meets_links(*module) && is_end_of(node, a, b)
+            meets_links(*module) && is_link_end(node, a, b)
         }
         _ => false,
     }

@@ -16,7 +16,7 @@ use Rattle.net_scenario.specs.declared.statement.Statement.{Statement}
 use Rattle.net_scenario.specs.declared.statement.Statement.TheVariants as says
 use Rattle.net_laboratory.specs.Limits.{most_nodes, most_failing_calls, last_failing_call, most_links, most_links_of_node, most_turns, default_metric}
 use Rattle.net_laboratory.specs.Scenario.{is_declared, is_end, is_interface}
-use Rattle.net_scenario.specs.Seen.{Seen, is_empty, admits, is_sound_so_far}
+use Rattle.net_scenario.specs.Seen.{Seen, has_none, admits, is_sound_so_far}
 use Rattle.net_laboratory.specs.Sound.{admits_node, admits_link, is_metric}
 use Rattle.net_scenario.specs.Conditions.{is_full_at, interface_a, interface_b, is_repeated, passes_limit, is_misplaced}
 use Rattle.net_scenario.specs.Statement.{small_or, link_of, command_of, routing_command_of, statement_of}
@@ -38,8 +38,8 @@ module _ (seen : Seen) (turns : Bool) (line : Line) (d : Data) where
       also number_if_any seen 1 most_lifetime (get (codes "ttl") d) (fine seen turns line word.Lab d n 2 (optional_field (codes "ttl") lifetime) refl)
 
   -- no command stands before a declaration
-  no_command : (not (is_empty seen.commands) || not (is_empty seen.turns)) ≡ false → is_empty seen.commands ≡ true
-  no_command e = from_not (is_empty seen.commands) (or_parts (not (is_empty seen.commands)) (not (is_empty seen.turns)) e).0
+  no_command : (not (has_none seen.commands) || not (has_none seen.turns)) ≡ false → has_none seen.commands ≡ true
+  no_command e = from_not (has_none seen.commands) (or_parts (not (has_none seen.commands)) (not (has_none seen.turns)) e).0
 
   node_admits : NoFault seen turns line word.Node d → admits_node seen.nodes (record { name = text_at (codes "name") d; faults = numbers_at (codes "faults") d }) ≡ true
   unfolding fields_of numbers_at is_repeated passes_limit admits_node

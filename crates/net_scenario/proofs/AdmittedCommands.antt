@@ -18,10 +18,10 @@ use Rattle.net_scenario.specs.declared.statement.Statement.TheVariants as says
 use Rattle.net_laboratory.specs.Limits.{most_lines, most_links, most_settles, most_rounds, default_rounds, most_moment, most_aggregated_routes, default_path, default_source, default_distance}
 use Rattle.net_laboratory.specs.Scenario.{is_declared, is_end_of}
 use Rattle.net_laboratory.specs.Amounts.{keys_in, has_key_room, owners_in, has_other_owner, is_record_key, offers_in, has_offer_room, settles_in}
-use Rattle.net_scenario.specs.Seen.{Seen, kind_in, declared_by, is_empty, admits}
+use Rattle.net_scenario.specs.Seen.{Seen, kind_in, declared_by, has_none, admits}
 use Rattle.net_laboratory.specs.Sound.{has_sound_fields, is_routing_command, belongs, is_in_time, has_one_owner, has_room, lines_before, admits_command, is_lifetime, is_value, are_acts, is_preference, is_entry}
 use Rattle.net_scenario.specs.Conditions.{is_full, is_turn, is_too_many, passes_limit, is_misplaced, has_two_owners}
-use Rattle.net_scenario.specs.Statement.{small_or, link_at, node_at, key_at, prefix_or_any, any_prefix, pair_of, prefix_entry_of}
+use Rattle.net_scenario.specs.Statement.{small_or, link_at, node_named, key_at, prefix_or_any, any_prefix, pair_of, prefix_entry_of}
 use Rattle.net_scenario.specs.Faults.{Line}
 use Rattle.net_scenario.proofs.AdmittedRows.{NoFault}
 use Rattle.net_scenario.proofs.AdmittedForms.{from_not, below, small, small_between, not_there, number_needed, number_optional, number_if_any, node_needed, key_needed, text_optional, hex_optional, link_needed, prefix_needed, acts_needed}
@@ -72,15 +72,15 @@ module _ (seen : Seen) (turns : Bool) (line : Line) (d : Data) where
   plain w c opened t n all within time owner room = command c opened within (belongs_all (kind_in seen) c all) time owner room (lines_left w t n)
 
   -- a command of full laboratories
-  full : (w : Word) (c : Command) → is_some seen.kind ≡ true → is_turn w ≡ false → NoFault seen turns line w d → (not (is_full (kind_in seen)) || not (is_empty seen.turns)) ≡ false
+  full : (w : Word) (c : Command) → is_some seen.kind ≡ true → is_turn w ≡ false → NoFault seen turns line w d → (not (is_full (kind_in seen)) || not (has_none seen.turns)) ≡ false
       → has_sound_fields (declared_by seen) c ≡ true
       → is_in_time seen.commands c ≡ true → has_one_owner (declared_by seen) seen.commands c ≡ true → has_room (declared_by seen) seen.commands c ≡ true
       → admits seen (says.Command c) ≡ true
-  full w c opened t n only within time owner room = command c opened within (belongs_full (kind_in seen) c (not (is_empty seen.turns)) only) time owner room (lines_left w t n)
+  full w c opened t n only within time owner room = command c opened within (belongs_full (kind_in seen) c (not (has_none seen.turns)) only) time owner room (lines_left w t n)
 
   -- ---- fields
 
-  node : (w : Word) → NoFault seen turns line w d → slice_get (fields_of w) 1 ≡ Some (needed_field (codes "node") form.Node) → is_declared seen.nodes (node_at d) ≡ true
+  node : (w : Word) → NoFault seen turns line w d → slice_get (fields_of w) 1 ≡ Some (needed_field (codes "node") form.Node) → is_declared seen.nodes (node_named d) ≡ true
   node w n at = node_needed seen (get (codes "node") d) (fine seen turns line w d n 1 (needed_field (codes "node") form.Node) at)
 
   key : (w : Word) → NoFault seen turns line w d → slice_get (fields_of w) 2 ≡ Some (needed_field (codes "key") form.Key) → is_key (key_at d) ≡ true
@@ -133,7 +133,7 @@ module _ (seen : Seen) (turns : Bool) (line : Line) (d : Data) where
   valid_value : SoundSeen seen → NoFault seen turns line word.Set d → is_valid_value (pair_of d).value ≡ true
   unfolding fields_of pair_of is_valid_value
   valid_value s n =
-      name_or seen (node_at d) (get (codes "originator") d) (s.names (node_at d) (node word.Set n refl)) (fine seen turns line word.Set d n 6 (optional_field (codes "originator") (form.Name most_node_name_bytes)) refl)
+      name_or seen (node_named d) (get (codes "originator") d) (s.names (node_named d) (node word.Set n refl)) (fine seen turns line word.Set d n 6 (optional_field (codes "originator") (form.Name most_node_name_bytes)) refl)
       also value word.Set 4 n refl refl
       also number_needed seen 1 most_version 0 (get (codes "version") d) (fine seen turns line word.Set d n 3 (needed_field (codes "version") (form.Number 1 most_version)) refl)
       also ttl word.Set 7 n refl
@@ -147,34 +147,34 @@ module _ (seen : Seen) (turns : Bool) (line : Line) (d : Data) where
   unfolding passes_limit pair_of
   key_room_set n = from_not _ (within_limit word.Set n)
 
-  pub set : SoundSeen seen → NoFault seen turns line word.Set d → is_some seen.kind ≡ true → admits seen (says.Command (Set (node_at d) (pair_of d))) ≡ true
+  pub set : SoundSeen seen → NoFault seen turns line word.Set d → is_some seen.kind ≡ true → admits seen (says.Command (Set (node_named d) (pair_of d))) ≡ true
   unfolding fields_of has_sound_fields
   set s n opened = plain word.Set _ opened refl n refl (node word.Set n refl also valid_pair s n) refl refl (key_room_set n also refl)
 
-  one_owner : NoFault seen turns line word.Own d → (not (has_other_owner (owners_in seen.commands) (key_at d) (node_at d)) && not (is_record_key (kind_in seen) seen.nodes (key_at d))) ≡ true
+  one_owner : NoFault seen turns line word.Own d → (not (has_other_owner (owners_in seen.commands) (key_at d) (node_named d)) && not (is_record_key (kind_in seen) seen.nodes (key_at d))) ≡ true
   unfolding has_two_owners
   one_owner n =
-      let parts = or_parts (has_other_owner (owners_in seen.commands) (key_at d) (node_at d)) (is_record_key (kind_in seen) seen.nodes (key_at d)) n.owners in
+      let parts = or_parts (has_other_owner (owners_in seen.commands) (key_at d) (node_named d)) (is_record_key (kind_in seen) seen.nodes (key_at d)) n.owners in
       ap not parts.0 also ap not parts.1
 
-  pub own : NoFault seen turns line word.Own d → is_some seen.kind ≡ true → admits seen (says.Command (Own (node_at d) (key_at d) (value_at d) (number_at (codes "ttl") d))) ≡ true
+  pub own : NoFault seen turns line word.Own d → is_some seen.kind ≡ true → admits seen (says.Command (Own (node_named d) (key_at d) (value_at d) (number_at (codes "ttl") d))) ≡ true
   unfolding fields_of has_sound_fields passes_limit
   own n opened =
       plain word.Own _ opened refl n refl (node word.Own n refl also key word.Own n refl also value word.Own 3 n refl refl also ttl word.Own 5 n refl)
       refl (one_owner n) (from_not _ (within_limit word.Own n) also refl)
 
-  pub disown : NoFault seen turns line word.Disown d → is_some seen.kind ≡ true → admits seen (says.Command (Disown (node_at d) (key_at d))) ≡ true
+  pub disown : NoFault seen turns line word.Disown d → is_some seen.kind ≡ true → admits seen (says.Command (Disown (node_named d) (key_at d))) ≡ true
   unfolding fields_of has_sound_fields
   disown n opened = plain word.Disown _ opened refl n refl (node word.Disown n refl also key word.Disown n refl) refl refl refl
 
-  pub sync : SoundSeen seen → NoFault seen turns line word.Sync d → is_some seen.kind ≡ true → admits seen (says.Command (Sync (node_at d) (link_at d))) ≡ true
+  pub sync : SoundSeen seen → NoFault seen turns line word.Sync d → is_some seen.kind ≡ true → admits seen (says.Command (Sync (node_named d) (link_at d))) ≡ true
   unfolding fields_of has_sound_fields
   sync s n opened =
       plain word.Sync _ opened refl n refl
-      (node word.Sync n refl also link_end s (node_at d) (link word.Sync 2 n refl) (ends_not seen word.Sync d n.unknown))
+      (node word.Sync n refl also link_end s (node_named d) (link word.Sync 2 n refl) (ends_not seen word.Sync d n.unknown))
       refl refl refl
 
-  pub restart : NoFault seen turns line word.Restart d → is_some seen.kind ≡ true → admits seen (says.Command (Restart (node_at d))) ≡ true
+  pub restart : NoFault seen turns line word.Restart d → is_some seen.kind ≡ true → admits seen (says.Command (Restart (node_named d))) ≡ true
   unfolding fields_of has_sound_fields
   restart n opened = plain word.Restart _ opened refl n refl (node word.Restart n refl) refl refl refl
 
@@ -202,32 +202,32 @@ module _ (seen : Seen) (turns : Bool) (line : Line) (d : Data) where
       )
       refl refl refl
 
-  pub get_key : NoFault seen turns line word.Get d → is_some seen.kind ≡ true → admits seen (says.Command (Get (node_at d) (key_at d))) ≡ true
+  pub get_key : NoFault seen turns line word.Get d → is_some seen.kind ≡ true → admits seen (says.Command (Get (node_named d) (key_at d))) ≡ true
   unfolding fields_of has_sound_fields
   get_key n opened = plain word.Get _ opened refl n refl (node word.Get n refl also key word.Get n refl) refl refl refl
 
   -- ---- the commands of full laboratories
 
-  pub drain : NoFault seen turns line word.Drain d → is_some seen.kind ≡ true → admits seen (says.Command (Drain (node_at d) (flag_at (codes "on") d))) ≡ true
+  pub drain : NoFault seen turns line word.Drain d → is_some seen.kind ≡ true → admits seen (says.Command (Drain (node_named d) (flag_at (codes "on") d))) ≡ true
   unfolding fields_of has_sound_fields is_misplaced
   drain n opened = full word.Drain _ opened refl n n.misplaced (node word.Drain n refl) refl refl refl
 
   pub link_drain : SoundSeen seen → NoFault seen turns line word.LinkDrain d → is_some seen.kind ≡ true
-      → admits seen (says.Command (LinkDrain (node_at d) (link_at d) (flag_at (codes "on") d))) ≡ true
+      → admits seen (says.Command (LinkDrain (node_named d) (link_at d) (flag_at (codes "on") d))) ≡ true
   unfolding fields_of has_sound_fields is_misplaced
   link_drain s n opened =
       full word.LinkDrain _ opened refl n n.misplaced
-      (node word.LinkDrain n refl also link_end s (node_at d) (link word.LinkDrain 2 n refl) (ends_not seen word.LinkDrain d n.unknown))
+      (node word.LinkDrain n refl also link_end s (node_named d) (link word.LinkDrain 2 n refl) (ends_not seen word.LinkDrain d n.unknown))
       refl refl refl
 
   pub link_metric : SoundSeen seen → NoFault seen turns line word.Metric d → is_some seen.kind ≡ true
-      → admits seen (says.Command (Metric (node_at d) (link_at d) (small_or (codes "metric") 0 d))) ≡ true
+      → admits seen (says.Command (Metric (node_named d) (link_at d) (small_or (codes "metric") 0 d))) ≡ true
   unfolding fields_of has_sound_fields is_misplaced
   link_metric s n opened =
       full word.Metric _ opened refl n n.misplaced
       (
       node word.Metric n refl
-      also link_end s (node_at d) (link word.Metric 2 n refl) (ends_not seen word.Metric d n.unknown)
+      also link_end s (node_named d) (link word.Metric 2 n refl) (ends_not seen word.Metric d n.unknown)
       also small_between 1 most_metric (number_or (codes "metric") 0 d) refl
       (number_needed seen 1 most_metric 0 (get (codes "metric") d) (fine seen turns line word.Metric d n 3 (needed_field (codes "metric") metric) refl))
       )
@@ -235,12 +235,12 @@ module _ (seen : Seen) (turns : Bool) (line : Line) (d : Data) where
 
   -- the prefix is one that the node may have
   prefix_room : (w : Word) → NoFault seen turns line w d → slice_get (fields_of w) 2 ≡ Some (needed_field (codes "prefix") form.Prefix)
-      → option_map_or (λ prefix. not (has_offer_room (offers_in seen.commands) (node_at d) prefix)) (prefix_at (codes "prefix") d) false ≡ false
-      → has_offer_room (offers_in seen.commands) (node_at d) (prefix_or_any d) ≡ true
+      → option_map_or (λ prefix. not (has_offer_room (offers_in seen.commands) (node_named d) prefix)) (prefix_at (codes "prefix") d) false ≡ false
+      → has_offer_room (offers_in seen.commands) (node_named d) (prefix_or_any d) ≡ true
   prefix_room w n at room =
       from_not _
       (
-      not_there (λ prefix. not (has_offer_room (offers_in seen.commands) (node_at d) prefix)) (prefix_at (codes "prefix") d) any_prefix
+      not_there (λ prefix. not (has_offer_room (offers_in seen.commands) (node_named d) prefix)) (prefix_at (codes "prefix") d) any_prefix
       (prefix_needed seen (get (codes "prefix") d) (fine seen turns line w d n 2 (needed_field (codes "prefix") form.Prefix) at)) room
       )
 
@@ -256,21 +256,21 @@ module _ (seen : Seen) (turns : Bool) (line : Line) (d : Data) where
   preferences n =
       preferred 3 (codes "path") default_path n refl refl also preferred 4 (codes "source") default_source n refl refl also preferred 5 (codes "distance") default_distance n refl refl
 
-  offer_room : NoFault seen turns line word.Advertise d → has_offer_room (offers_in seen.commands) (node_at d) (prefix_entry_of d).prefix ≡ true
+  offer_room : NoFault seen turns line word.Advertise d → has_offer_room (offers_in seen.commands) (node_named d) (prefix_entry_of d).prefix ≡ true
   unfolding fields_of passes_limit prefix_entry_of
   offer_room n = prefix_room word.Advertise n refl (within_limit word.Advertise n)
 
-  pub advertise : NoFault seen turns line word.Advertise d → is_some seen.kind ≡ true → admits seen (says.Command (Advertise (node_at d) (prefix_entry_of d))) ≡ true
+  pub advertise : NoFault seen turns line word.Advertise d → is_some seen.kind ≡ true → admits seen (says.Command (Advertise (node_named d) (prefix_entry_of d))) ≡ true
   unfolding fields_of has_sound_fields is_misplaced
   advertise n opened =
       full word.Advertise _ opened refl n n.misplaced (node word.Advertise n refl also preferences n) refl refl (offer_room n)
 
-  pub withdraw : NoFault seen turns line word.Withdraw d → is_some seen.kind ≡ true → admits seen (says.Command (Withdraw (node_at d) (prefix_or_any d))) ≡ true
+  pub withdraw : NoFault seen turns line word.Withdraw d → is_some seen.kind ≡ true → admits seen (says.Command (Withdraw (node_named d) (prefix_or_any d))) ≡ true
   unfolding fields_of has_sound_fields is_misplaced
   withdraw n opened = full word.Withdraw _ opened refl n n.misplaced (node word.Withdraw n refl) refl refl refl
 
   pub aggregate : NoFault seen turns line word.Aggregate d → is_some seen.kind ≡ true
-      → admits seen (says.Command (Aggregate (node_at d) (prefix_or_any d) (small_or (codes "min") 0 d))) ≡ true
+      → admits seen (says.Command (Aggregate (node_named d) (prefix_or_any d) (small_or (codes "min") 0 d))) ≡ true
   unfolding fields_of has_sound_fields is_misplaced passes_limit
   aggregate n opened =
       full word.Aggregate _ opened refl n n.misplaced
@@ -281,6 +281,6 @@ module _ (seen : Seen) (turns : Bool) (line : Line) (d : Data) where
       )
       refl refl (prefix_room word.Aggregate n refl (within_limit word.Aggregate n))
 
-  pub ask : NoFault seen turns line word.Ask d → is_some seen.kind ≡ true → admits seen (says.Command (Ask (node_at d) (prefix_or_any d))) ≡ true
+  pub ask : NoFault seen turns line word.Ask d → is_some seen.kind ≡ true → admits seen (says.Command (Ask (node_named d) (prefix_or_any d))) ≡ true
   unfolding fields_of has_sound_fields is_misplaced
   ask n opened = full word.Ask _ opened refl n n.misplaced (node word.Ask n refl) refl refl refl

@@ -1,6 +1,6 @@
 -- Tests that hold together.
 use Rattle.std.proofs.Common.{◌≡◌, Bool, true, false, refl, ◌&&◌, ◌||◌, not, Option, Some, None, is_some, is_none, List, [], ◌∷◌}
-use Rattle.net_scenario.specs.Seen.{is_empty}
+use Rattle.net_scenario.specs.Seen.{has_none}
 
 pub both : (a b : Bool) → (a && b) ≡ true → (a ≡ true) × (b ≡ true)
 both true b h = (refl, h)
@@ -30,7 +30,7 @@ pub none_not_some : {X : Type 0} (o : Option X) → is_none o ≡ true → is_so
 none_not_some None h = refl
 none_not_some (Some x) h = absurd cc
 
-pub empty_is_nil : {X : Type 0} (xs : List X) → is_empty xs ≡ true → xs ≡ []
+pub empty_is_nil : {X : Type 0} (xs : List X) → has_none xs ≡ true → xs ≡ []
 empty_is_nil [] h = refl
 empty_is_nil (x ∷ xs) h = absurd cc
 

@@ -17,7 +17,7 @@ use Rattle.net_laboratory.specs.Limits.{most_links, most_nodes, most_failing_cal
 use Rattle.net_laboratory.specs.Scenario.{is_declared}
 use Rattle.net_laboratory.specs.Amounts.{is_settle, ends_in_settle}
 use Rattle.net_laboratory.specs.Sound.{Declarations, is_lifetime, is_default_settle, default_settle, are_admitted, end_in_settle, admits_node, admits_link, admits_command, is_sound}
-use Rattle.net_scenario.specs.Seen.{Seen, declared_by, is_empty, is_opened, with_last_settle, schedule_of, with_line, admits, is_sound_so_far, scenario_in}
+use Rattle.net_scenario.specs.Seen.{Seen, declared_by, has_none, is_opened, with_last_settle, schedule_given, with_line, admits, is_sound_so_far, scenario_in}
 use Rattle.net_scenario.proofs.Bools.{both, and_true, or_left, or_right, or_more, or_true, under, not_true, none_not_some, empty_is_nil}
 
 -- ---- lists of which each item may stand behind those before it
@@ -91,7 +91,7 @@ whole_of seen p =
     p.nodes) p.links) p.commands) p.turns
 
 -- no commands are admitted whatever is declared
-no_commands : (d : Declarations) (commands : List Command) → is_empty commands ≡ true → are_admitted (admits_command d) [] commands ≡ true
+no_commands : (d : Declarations) (commands : List Command) → has_none commands ≡ true → are_admitted (admits_command d) [] commands ≡ true
 no_commands d [] none = refl
 no_commands d (c ∷ commands) none = absurd cc
 
@@ -107,15 +107,15 @@ unfolding admits with_line
 lab_stays seen kind ttl p h =
     let here = both (is_none seen.kind) (is_lifetime ttl) h in
     let none = or_right (is_some seen.kind) _ (none_not_some seen.kind here.0) p.opened in
-    let two = both _ (is_empty seen.turns) none in
-    let three = both _ (is_empty seen.commands) two.0 in
+    let two = both _ (has_none seen.turns) none in
+    let three = both _ (has_none seen.commands) two.0 in
     record { opened = refl; ttl = here.1; nodes = p.nodes; links = p.links; commands = no_commands _ seen.commands three.1; turns = p.turns }
 
 node_stays : (seen : Seen) (node : NodeDecl) → Parts seen → admits seen (says.Node node) ≡ true → Parts (with_line seen (says.Node node))
 unfolding admits with_line
 node_stays seen node p h =
     let one = both _ (admits_node seen.nodes node) h in
-    let two = both (is_some seen.kind) (is_empty seen.commands) one.0 in
+    let two = both (is_some seen.kind) (has_none seen.commands) one.0 in
     record {
       opened = or_left (is_some seen.kind) _ two.0;
       ttl = p.ttl;
@@ -129,7 +129,7 @@ link_stays : (seen : Seen) (link : LinkDecl) → Parts seen → admits seen (say
 unfolding admits with_line
 link_stays seen link p h =
     let one = both _ (admits_link seen.nodes seen.links link) h in
-    let two = both (is_some seen.kind) (is_empty seen.commands) one.0 in
+    let two = both (is_some seen.kind) (has_none seen.commands) one.0 in
     record {
       opened = or_left (is_some seen.kind) _ two.0;
       ttl = p.ttl;
@@ -224,7 +224,7 @@ with_last_settle_at : (d : Declarations) (commands : List Command) (ends : Bool)
 with_last_settle_at d commands true e h = closes d [] commands h (sym (ends_last commands) ∙ e)
 with_last_settle_at d commands false e h = closes_with d [] commands h e
 
-schedule_fits : (turns : List Turn) → nat_le (length turns) most_turns ≡ true → option_map_or (λ g. is_between 1 most_turns (length g.turns)) (schedule_of turns) true ≡ true
+schedule_fits : (turns : List Turn) → nat_le (length turns) most_turns ≡ true → option_map_or (λ g. is_between 1 most_turns (length g.turns)) (schedule_given turns) true ≡ true
 schedule_fits [] h = refl
 schedule_fits (turn ∷ turns) h = grind (arith, nat_tests)
 
@@ -247,9 +247,9 @@ none_before seen kind ttl sound h =
     let p = parts_of seen sound in
     let here = both (is_none seen.kind) (is_lifetime ttl) h in
     let none = or_right (is_some seen.kind) _ (none_not_some seen.kind here.0) p.opened in
-    let two = both _ (is_empty seen.turns) none in
-    let three = both _ (is_empty seen.commands) two.0 in
-    let four = both (is_empty seen.nodes) (is_empty seen.links) three.0 in
+    let two = both _ (has_none seen.turns) none in
+    let three = both _ (has_none seen.commands) two.0 in
+    let four = both (has_none seen.nodes) (has_none seen.links) three.0 in
     (empty_is_nil seen.nodes four.0, empty_is_nil seen.commands three.1)
 
 -- no command stands before a node, whose name is new
@@ -257,6 +257,6 @@ pub node_is_new : (seen : Seen) (node : NodeDecl) → admits seen (says.Node nod
 unfolding admits admits_node
 node_is_new seen node h =
     let one = both _ (nat_lt (length seen.nodes) most_nodes && is_node_name node.name && not (is_declared seen.nodes node.name) && nat_le (length node.faults) most_failing_calls && list_all (is_between 1 last_failing_call) node.faults) h in
-    let two = both (is_some seen.kind) (is_empty seen.commands) one.0 in
+    let two = both (is_some seen.kind) (has_none seen.commands) one.0 in
     let new = both _ (not (is_declared seen.nodes node.name)) (first_of _ (first_of _ one.1)) in
     (empty_is_nil seen.commands two.1, not_true (is_declared seen.nodes node.name) new.1)

@@ -19,7 +19,7 @@ use Rattle.net_laboratory.specs.Scenario.{is_declared, is_end, is_interface, is_
 use Rattle.or_base.specs.Names.{is_among}
 use Rattle.net_laboratory.specs.Amounts.{link_record_key, prefix_record_key, keys_in, has_key_room, owners_in, has_other_owner, is_record_key, offers_in, has_offer_room, settles_in, last_tick, is_later}
 use Rattle.net_laboratory.specs.Sound.{lines_before}
-use Rattle.net_scenario.specs.Seen.{Seen, kind_in, is_empty}
+use Rattle.net_scenario.specs.Seen.{Seen, kind_in, has_none}
 
 -- the interfaces of a link: by default `if-` and the name of the node at the other end
 abbrev pub interface_by : List ℕ → List ℕ → Data → List ℕ
@@ -225,7 +225,7 @@ is_too_many seen w d = is_line_too_many seen w || passes_limit seen w d
 -- laboratory doesn't have.
 unfoldable pub is_misplaced : Seen → Bool → Word → Bool
 is_misplaced seen turns word.Lab = false
-is_misplaced seen turns word.Node = not (is_empty seen.commands) || not (is_empty seen.turns)
-is_misplaced seen turns word.Link = not (is_empty seen.commands) || not (is_empty seen.turns)
+is_misplaced seen turns word.Node = not (has_none seen.commands) || not (has_none seen.turns)
+is_misplaced seen turns word.Link = not (has_none seen.commands) || not (has_none seen.turns)
 is_misplaced seen turns word.Turn = not turns
-is_misplaced seen turns w = (is_for_full w && not (is_full (kind_in seen))) || not (is_empty seen.turns)
+is_misplaced seen turns w = (is_for_full w && not (is_full (kind_in seen))) || not (has_none seen.turns)

@@ -32,9 +32,9 @@ kind_in seen = unwrap_or seen.kind kind.Stores
 abbrev pub declared_by : Seen → Declarations
 declared_by seen = record { kind = kind_in seen; nodes = seen.nodes; links = seen.links }
 
-abbrev pub is_empty : {X : Type 0} → List X → Bool
-is_empty [] = true
-is_empty (x ∷ xs) = false
+abbrev pub has_none : {X : Type 0} → List X → Bool
+has_none [] = true
+has_none (x ∷ xs) = false
 
 -- what is seen with one more line
 unfoldable pub with_line : Seen → Statement → Seen
@@ -47,14 +47,14 @@ with_line seen (says.Turn turn) = record seen { turns = seen.turns ++ turn ∷ [
 -- the line may stand behind those before it
 unfoldable pub admits : Seen → Statement → Bool
 admits seen (says.Lab kind ttl) = is_none seen.kind && is_lifetime ttl
-admits seen (says.Node node) = is_some seen.kind && is_empty seen.commands && admits_node seen.nodes node
-admits seen (says.Link link) = is_some seen.kind && is_empty seen.commands && admits_link seen.nodes seen.links link
+admits seen (says.Node node) = is_some seen.kind && has_none seen.commands && admits_node seen.nodes node
+admits seen (says.Link link) = is_some seen.kind && has_none seen.commands && admits_link seen.nodes seen.links link
 admits seen (says.Command command) = is_some seen.kind && admits_command (declared_by seen) seen.commands command
 admits seen (says.Turn turn) = is_some seen.kind && nat_lt (length seen.turns) most_turns
 
 -- nothing stands before the line of the laboratory
 abbrev pub is_opened : Seen → Bool
-is_opened seen = is_some seen.kind || (is_empty seen.nodes && is_empty seen.links && is_empty seen.commands && is_empty seen.turns)
+is_opened seen = is_some seen.kind || (has_none seen.nodes && has_none seen.links && has_none seen.commands && has_none seen.turns)
 
 -- each line may stand behind those before it
 unfoldable pub is_sound_so_far : Seen → Bool
@@ -68,10 +68,10 @@ abbrev pub with_last_settle : List Command → List Command
 with_last_settle commands = if ends_in_settle commands then commands else commands ++ default_settle ∷ []
 
 -- the turns, where there are turn lines
-abbrev pub schedule_of : List Turn → Option Schedule
-schedule_of turns = if is_empty turns then None else Some (record { turns = turns })
+abbrev pub schedule_given : List Turn → Option Schedule
+schedule_given turns = if has_none turns then None else Some (record { turns = turns })
 
 -- the scenario that all lines say
 unfoldable pub scenario_in : Seen → Laboratory
 scenario_in seen =
-    record { kind = kind_in seen; ttl = seen.ttl; nodes = seen.nodes; links = seen.links; commands = with_last_settle seen.commands; turns = schedule_of seen.turns }
+    record { kind = kind_in seen; ttl = seen.ttl; nodes = seen.nodes; links = seen.links; commands = with_last_settle seen.commands; turns = schedule_given seen.turns }

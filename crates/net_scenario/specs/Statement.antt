@@ -22,8 +22,8 @@ small_or name default d = number_or name default d % 2 ^ 32
 abbrev pub link_at : Data → ℕ
 link_at d = small_or (codes "link") 0 d
 
-abbrev pub node_at : Data → List ℕ
-node_at d = text_at (codes "node") d
+abbrev pub node_named : Data → List ℕ
+node_named d = text_at (codes "node") d
 
 abbrev pub key_at : Data → List ℕ
 key_at d = text_at (codes "key") d
@@ -47,7 +47,7 @@ link_of d = record {
 
 -- the originator of a value: by default the node
 abbrev pub originator_at : Data → List ℕ
-originator_at d = text_or (codes "originator") (node_at d) d
+originator_at d = text_or (codes "originator") (node_named d) d
 
 unfoldable pub pair_of : Data → Pair
 pair_of d = record {
@@ -71,27 +71,27 @@ prefix_entry_of d = record {
 
 -- what is done: the commands of full laboratories alone
 unfoldable pub routing_command_of : Word → Data → Command
-routing_command_of word.Drain d = Drain (node_at d) (flag_at (codes "on") d)
-routing_command_of word.LinkDrain d = LinkDrain (node_at d) (link_at d) (flag_at (codes "on") d)
-routing_command_of word.Metric d = Metric (node_at d) (link_at d) (small_or (codes "metric") 0 d)
-routing_command_of word.Advertise d = Advertise (node_at d) (prefix_entry_of d)
-routing_command_of word.Withdraw d = Withdraw (node_at d) (prefix_or_any d)
-routing_command_of word.Aggregate d = Aggregate (node_at d) (prefix_or_any d) (small_or (codes "min") 0 d)
-routing_command_of _ d = Ask (node_at d) (prefix_or_any d)
+routing_command_of word.Drain d = Drain (node_named d) (flag_at (codes "on") d)
+routing_command_of word.LinkDrain d = LinkDrain (node_named d) (link_at d) (flag_at (codes "on") d)
+routing_command_of word.Metric d = Metric (node_named d) (link_at d) (small_or (codes "metric") 0 d)
+routing_command_of word.Advertise d = Advertise (node_named d) (prefix_entry_of d)
+routing_command_of word.Withdraw d = Withdraw (node_named d) (prefix_or_any d)
+routing_command_of word.Aggregate d = Aggregate (node_named d) (prefix_or_any d) (small_or (codes "min") 0 d)
+routing_command_of _ d = Ask (node_named d) (prefix_or_any d)
 
 -- what is done
 unfoldable pub command_of : Word → Data → Command
 command_of word.Settle d = Settle (number_or (codes "rounds") default_rounds d) (show_at (codes "show") d)
 command_of word.Tick d = Tick (number_or (codes "to") 0 d)
-command_of word.Set d = Set (node_at d) (pair_of d)
-command_of word.Own d = Own (node_at d) (key_at d) (value_at d) (number_at (codes "ttl") d)
-command_of word.Disown d = Disown (node_at d) (key_at d)
-command_of word.Sync d = Sync (node_at d) (link_at d)
-command_of word.Restart d = Restart (node_at d)
+command_of word.Set d = Set (node_named d) (pair_of d)
+command_of word.Own d = Own (node_named d) (key_at d) (value_at d) (number_at (codes "ttl") d)
+command_of word.Disown d = Disown (node_named d) (key_at d)
+command_of word.Sync d = Sync (node_named d) (link_at d)
+command_of word.Restart d = Restart (node_named d)
 command_of word.Up d = Up (link_at d)
 command_of word.Down d = Down (link_at d)
 command_of word.Script d = Script (link_at d) (text_at (codes "from") d) (acts_at (codes "acts") d)
-command_of word.Get d = Get (node_at d) (key_at d)
+command_of word.Get d = Get (node_named d) (key_at d)
 command_of w d = routing_command_of w d
 
 unfoldable pub statement_of : Word → Data → Statement

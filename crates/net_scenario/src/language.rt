@@ -6,7 +6,7 @@ ghost use Rattle.net_scenario.specs.Gives.{GivesSeen, GivesScenario};
 ghost use Rattle.net_scenario.specs.Language.{is_blank_byte, is_blank, is_all_blank, lines_in, fault_at, after_line, line_step, scenario_of};
 ghost use Rattle.net_laboratory.specs.Limits.{most_scenario_bytes};
 ghost use Rattle.net_laboratory.specs.Amounts.{ends_in_settle};
-ghost use Rattle.net_scenario.specs.Seen.{with_last_settle, schedule_of, scenario_in};
+ghost use Rattle.net_scenario.specs.Seen.{with_last_settle, schedule_given, scenario_in};
 ghost use Rattle.net_scenario.specs.Tallied.{seen_in, line_at, IsTallied};
 ghost use Rattle.net_scenario.specs.declared.fault.ReadRefusal.TheVariants.{Fault};
 
@@ -118,8 +118,8 @@ fn with_last_settle(commands: Vec<Command>, is_settled: bool) -> Result<Vec<Comm
 }
 
 /// The turns, where there are some.
-fn schedule_of(turns: Vec<Turn>) -> Option<Schedule>
-    ensures { result ≡ schedule_of turns.items }
+fn schedule_given(turns: Vec<Turn>) -> Option<Schedule>
+    ensures { result ≡ schedule_given turns.items }
 {
     if turns.is_empty() {
         return None;
@@ -143,7 +143,7 @@ fn scenario_in(draft: Draft) -> Result<Scenario, NoMemory>
         Seq::from_vec(draft.nodes),
         Seq::from_vec(draft.links),
         Seq::from_vec(commands),
-        schedule_of(draft.turns),
+        schedule_given(draft.turns),
     ))
 }
 

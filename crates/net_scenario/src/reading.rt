@@ -3,7 +3,7 @@
 ghost use Rattle.std.specs.Prelude.{◌≡◌, codes, IfOk};
 ghost use Rattle.serde_json.specs.View.{view};
 ghost use Rattle.net_fields.specs.Members.{text_at, value_at, number_at, acts_at, numbers_at};
-ghost use Rattle.net_scenario.specs.Statement.{small_or, node_at, key_at, link_at, prefix_or_any, link_of, originator_at, pair_of, prefix_entry_of, routing_command_of, command_of, statement_of};
+ghost use Rattle.net_scenario.specs.Statement.{small_or, node_named, key_at, link_at, prefix_or_any, link_of, originator_at, pair_of, prefix_entry_of, routing_command_of, command_of, statement_of};
 ghost use Rattle.net_laboratory.specs.declared.command.Command.TheVariants.{Own, Script};
 
 use crate::conditions::{interface_a, interface_b};
@@ -35,8 +35,8 @@ fn name_at(alloc: Global, object: &Value, field: &str) -> Result<Name, NoMemory>
 }
 
 /// The named node.
-fn node_at(alloc: Global, object: &Value) -> Result<Name, NoMemory>
-    ensures { IfOk result (λ name. name ≡ node_at (view object.now)) }
+fn node_named(alloc: Global, object: &Value) -> Result<Name, NoMemory>
+    ensures { IfOk result (λ name. name ≡ node_named (view object.now)) }
 {
     name_at(alloc, object, "node")
 }
@@ -125,10 +125,10 @@ fn prefix_entry_of(object: &Value) -> PrefixEntry
 
 /// What an own line does.
 fn own_of(alloc: Global, object: &Value) -> Result<Command, NoMemory>
-    ensures { IfOk result (λ c. c ≡ Own (node_at (view object.now)) (key_at (view object.now)) (value_at (view object.now)) (number_at (codes "ttl") (view object.now))) }
+    ensures { IfOk result (λ c. c ≡ Own (node_named (view object.now)) (key_at (view object.now)) (value_at (view object.now)) (number_at (codes "ttl") (view object.now))) }
 {
     Ok(Command::Own {
-        node: node_at(alloc, object)?,
+        node: node_named(alloc, object)?,
         key: key_at(alloc, object)?,
         value: value_at(alloc, object)?,
         ttl: number_at(object, "ttl"),
@@ -149,7 +149,7 @@ fn script_of(alloc: Global, object: &Value) -> Result<Command, NoMemory>
 /// What a command of full laboratories does to a node.
 #[tactic(auto, unfolding(crate::specs::Statement::routing_command_of))]
 fn routing_command(word: Word, node: Name, object: &Value) -> Command
-    requires { node ≡ node_at (view object.now) }
+    requires { node ≡ node_named (view object.now) }
     ensures { result ≡ routing_command_of word (view object.now) }
 {
     match word {
@@ -201,20 +201,20 @@ fn command_of(alloc: Global, word: Word, object: &Value) -> Result<Command, NoMe
             to: number_or(object, "to", 0),
         }),
         Word::Set => Ok(Command::Set {
-            node: node_at(alloc, object)?,
+            node: node_named(alloc, object)?,
             pair: pair_of(alloc, object)?,
         }),
         Word::Own => Ok(own_of(alloc, object)?),
         Word::Disown => Ok(Command::Disown {
-            node: node_at(alloc, object)?,
+            node: node_named(alloc, object)?,
             key: key_at(alloc, object)?,
         }),
         Word::Sync => Ok(Command::Sync {
-            node: node_at(alloc, object)?,
+            node: node_named(alloc, object)?,
             link: link_at(object),
         }),
         Word::Restart => Ok(Command::Restart {
-            node: node_at(alloc, object)?,
+            node: node_named(alloc, object)?,
         }),
         Word::Up => Ok(Command::Up {
             link: link_at(object),
@@ -224,10 +224,10 @@ fn command_of(alloc: Global, word: Word, object: &Value) -> Result<Command, NoMe
         }),
         Word::Script => Ok(script_of(alloc, object)?),
         Word::Get => Ok(Command::Get {
-            node: node_at(alloc, object)?,
+            node: node_named(alloc, object)?,
             key: key_at(alloc, object)?,
         }),
-        _other => Ok(routing_command(word, node_at(alloc, object)?, object)),
+        _other => Ok(routing_command(word, node_named(alloc, object)?, object)),
     }
 }
 

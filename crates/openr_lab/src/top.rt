@@ -13,7 +13,7 @@ use or_base::{Sink, Source};
 use std::alloc::Global;
 
 /// An end without a record.
-fn ended(status: u8) -> Ended
+fn end_with(status: u8) -> Ended
     ensures status { result.status ≡ status }
     ensures run { result.run ≡ None }
 {
@@ -54,23 +54,23 @@ pub fn openr_plain<S: Source, K: Sink>(
 {
     if !is_mode_built(words.mode) {
         return match write_all(sink, NOT_BUILT) {
-            Ok(()) => ended(3),
-            Err(_) => ended(7),
+            Ok(()) => end_with(3),
+            Err(_) => end_with(7),
         };
     }
     let bytes = match read_all(alloc, source) {
         Ok(bytes) => bytes,
-        Err(StreamRefusal::Fault) => return ended(6),
-        Err(StreamRefusal::NoMemory) => return ended(5),
+        Err(StreamRefusal::Fault) => return end_with(6),
+        Err(StreamRefusal::NoMemory) => return end_with(5),
     };
     let Answer { status, text, run } = match answer_to(alloc, words, bytes.as_slice()) {
         Ok(answer) => answer,
-        Err(_) => return ended(5),
+        Err(_) => return end_with(5),
     };
     match write_all(sink, text.as_slice()) {
         Ok(()) => Ended { status, run },
         Err(_) if status == 0 => Ended { status: 7, run },
-        Err(_) => ended(7),
+        Err(_) => end_with(7),
     }
 }
 
@@ -112,9 +112,9 @@ pub fn openr<S: Source, K: Sink>(
     match read_words(alloc, words) {
         Ok(asked) => openr_plain(alloc, &asked, source, sink),
         Err(WordsFault::Usage) => match write_all(sink, USAGE) {
-            Ok(()) => ended(2),
-            Err(_) => ended(7),
+            Ok(()) => end_with(2),
+            Err(_) => end_with(7),
         },
-        Err(WordsFault::NoMemory) => ended(5),
+        Err(WordsFault::NoMemory) => end_with(5),
     }
 }
