@@ -1,10 +1,12 @@
+//! lab_words: command lines that are read and that are refused.
+
 use lab_words::{Mode, Words, WordsFault, read_words};
 use std::alloc::{AllocError, Global};
 use std::test::Fail;
 
 const REFUSED: Result<Words, WordsFault> = Err(WordsFault::Usage);
 
-const fn asked(mode: Mode, workers: u32, size: u32, trace: bool) -> Result<Words, WordsFault> {
+const fn asks(mode: Mode, workers: u32, size: u32, trace: bool) -> Result<Words, WordsFault> {
     Ok(Words {
         mode,
         workers,
@@ -23,21 +25,21 @@ fn split(alloc: Global, line: &str) -> Result<Vec<String>, AllocError> {
 }
 
 #[test]
-fn reads_and_refuses(rt: HostRuntime) -> Result<(), Fail> {
+fn command_lines_are_read_or_refused(rt: HostRuntime) -> Result<(), Fail> {
     let table = [
-        ("replay", asked(Mode::Replay, 2, 3, false)),
-        ("live", asked(Mode::Live, 2, 3, false)),
-        ("gen", asked(Mode::Gen, 2, 3, false)),
-        ("check", asked(Mode::Check, 2, 3, false)),
+        ("replay", asks(Mode::Replay, 2, 3, false)),
+        ("live", asks(Mode::Live, 2, 3, false)),
+        ("gen", asks(Mode::Gen, 2, 3, false)),
+        ("check", asks(Mode::Check, 2, 3, false)),
         (
             "--workers 64 --size=8 --trace live",
-            asked(Mode::Live, 64, 8, true),
+            asks(Mode::Live, 64, 8, true),
         ),
-        ("check --workers=1", asked(Mode::Check, 1, 3, false)),
-        ("gen --workers +4", asked(Mode::Gen, 4, 3, false)),
-        ("gen --workers 04", asked(Mode::Gen, 4, 3, false)),
-        ("gen --size 2 --trace", asked(Mode::Gen, 2, 2, true)),
-        ("-- gen", asked(Mode::Gen, 2, 3, false)),
+        ("check --workers=1", asks(Mode::Check, 1, 3, false)),
+        ("gen --workers +4", asks(Mode::Gen, 4, 3, false)),
+        ("gen --workers 04", asks(Mode::Gen, 4, 3, false)),
+        ("gen --size 2 --trace", asks(Mode::Gen, 2, 2, true)),
+        ("-- gen", asks(Mode::Gen, 2, 3, false)),
         ("", REFUSED),
         ("fly", REFUSED),
         ("Replay", REFUSED),
@@ -59,9 +61,9 @@ fn reads_and_refuses(rt: HostRuntime) -> Result<(), Fail> {
         ("--trace=true gen", REFUSED),
     ];
     for (line, wanted) in table {
-        let words = split(rt.alloc(), line)?;
+        let parts = split(rt.alloc(), line)?;
         assert!(rt;
-            read_words(rt.alloc(), words.as_slice()) == wanted,
+            read_words(rt.alloc(), parts.as_slice()) == wanted,
             "{line}"
         );
     }

@@ -1,24 +1,11 @@
-use kv_value::{Sent, greater_of, hash_of, sent_ttl};
-use or_base::{Bytes, KvValue, MOST_VALUE_BYTES, MOST_VERSION, Name};
-use sha2::{Digest, Sha256};
-use std::alloc::{AllocError, Global};
-use std::test::Fail;
+//! kv_value: hashes that are stated elsewhere, the greater of two values, and what is left of a lifetime.
 
-/// A value with no TTL.
-fn value(
-    alloc: Global,
-    version: u64,
-    originator: &str,
-    bytes: &[u8],
-) -> Result<KvValue, AllocError> {
-    Ok(KvValue {
-        version,
-        originator: Name::from_string(String::from_str(alloc, originator)?),
-        value: Bytes::from_vec(bytes.to_vec(alloc)?),
-        ttl: None,
-        ttl_version: 0,
-    })
-}
+use crate::fixtures::value_by;
+use kv_value::{Sent, greater_of, hash_of, sent_ttl};
+use or_base::{MOST_VALUE_BYTES, MOST_VERSION, NoMemory};
+use sha2::{Digest, Sha256};
+use std::alloc::Global;
+use std::test::Fail;
 
 /// Version, originator, value bytes and hash. Each hash is the first 8 bytes of what Python's `hashlib.sha256` gives for
 /// the framing that `struct.pack` made. That of the first is 0000000000000001 00000001 61 00000001 01.
@@ -52,26 +39,35 @@ fn first_number(digest: &[u8; 32]) -> u64 {
     ])
 }
 
+/// The first 8 bytes of the hash of a message.
+fn hash_in_one(message: &[u8]) -> u64 {
+    let mut hasher = Sha256::new();
+    hasher.update(message);
+    first_number(&hasher.finalize())
+}
+
+/// The same of a message in two pieces, as a value is hashed in pieces.
+fn hash_in_two(message: &[u8]) -> u64 {
+    let half = message.len() / 2;
+    let mut hasher = Sha256::new();
+    hasher.update(&message[..half]);
+    hasher.update(&message[half..]);
+    first_number(&hasher.finalize())
+}
+
 #[test]
 fn public_messages_have_their_stated_hash(rt: HostRuntime) -> Result<(), Fail> {
     for (message, want) in MESSAGES {
-        let mut whole = Sha256::new();
-        whole.update(message);
-        assert_eq!(rt; first_number(&whole.finalize()), want);
-        // The same in two pieces, as a value is hashed in pieces.
-        let mut pieces = Sha256::new();
-        pieces.update(&message[..message.len() / 2]);
-        pieces.update(&message[message.len() / 2..]);
-        assert_eq!(rt; first_number(&pieces.finalize()), want);
+        assert_eq!(rt; hash_in_one(message), want);
+        assert_eq!(rt; hash_in_two(message), want);
     }
     Ok(())
 }
 
 #[test]
 fn hashes_are_of_the_framing(rt: HostRuntime) -> Result<(), Fail> {
-    let alloc = rt.alloc();
     for (version, originator, bytes, want) in CASES {
-        let v = value(alloc, version, originator, bytes)?;
+        let v = value_by(rt.alloc(), version, originator, bytes)?;
         assert_eq!(rt; hash_of(&v), want, "{version} of {originator}");
     }
     Ok(())
@@ -79,32 +75,36 @@ fn hashes_are_of_the_framing(rt: HostRuntime) -> Result<(), Fail> {
 
 #[test]
 fn lifetimes_are_not_hashed(rt: HostRuntime) -> Result<(), Fail> {
-    let alloc = rt.alloc();
-    let mut v = value(alloc, 1, "a", &[1])?;
+    let mut v = value_by(rt.alloc(), 1, "a", &[1])?;
     v.ttl = Some(7);
     v.ttl_version = 9;
     assert_eq!(rt; hash_of(&v), 0x0a6e_7e81_1c25_de53);
     Ok(())
 }
 
-#[test]
-fn the_longest_value_is_hashed(rt: HostRuntime) -> Result<(), Fail> {
-    let alloc = rt.alloc();
+/// As many bytes as a value may have: 0 to 255, again and again.
+fn longest_bytes(alloc: Global) -> Result<Vec<u8>, NoMemory> {
     let mut bytes = Vec::new(alloc);
     for i in 0..MOST_VALUE_BYTES {
         bytes.push((i % 256) as u8)?;
     }
-    let v = value(alloc, MOST_VERSION, "r1n1.lab-a_b-c.d-e.f", bytes.as_slice())?;
+    Ok(bytes)
+}
+
+#[test]
+fn the_longest_value_is_hashed(rt: HostRuntime) -> Result<(), Fail> {
+    let bytes = longest_bytes(rt.alloc())?;
+    let longest = value_by(rt.alloc(), MOST_VERSION, "r1n1.lab-a_b-c.d-e.f", &bytes)?;
     // From `hashlib.sha256` over the 4,132 bytes of the framing.
-    assert_eq!(rt; hash_of(&v), 0x437c_32f4_bfa4_1fb1);
+    assert_eq!(rt; hash_of(&longest), 0x437c_32f4_bfa4_1fb1);
     Ok(())
 }
 
 #[test]
 fn the_greater_value_is_the_later_version(rt: HostRuntime) -> Result<(), Fail> {
     let alloc = rt.alloc();
-    let first = value(alloc, 1, "b", &[9])?;
-    let second = value(alloc, 2, "a", &[])?;
+    let first = value_by(alloc, 1, "b", &[9])?;
+    let second = value_by(alloc, 2, "a", &[])?;
     assert_eq!(rt; greater_of(&first, &second).version, 2);
     assert_eq!(rt; greater_of(&second, &first).version, 2);
     Ok(())
