@@ -11,7 +11,7 @@ use Rattle.or_base.specs.declared.message.Msg.TheVariants.{Flood, Reply, Push, A
 use Rattle.or_base.specs.declared.item.Item.{Item}
 use Rattle.or_base.specs.declared.item.Item.TheVariants.{Tick, Set, Restart, Net}
 use Rattle.or_base.specs.Journal.{offer, is_taken}
-use Rattle.kv_table.specs.Expiry.{due}
+use Rattle.kv_table.specs.Expiry.{keys_lost}
 use Rattle.or_base.specs.Names.{is_among}
 use Rattle.kv_sync.specs.declared.session.Session.{Session}
 use Rattle.kv_sync.specs.declared.session.Stale.{Stale}
@@ -20,25 +20,25 @@ use Rattle.kv_sync.specs.Sessions.{current}
 use Rattle.kv_store.specs.Store.{StoreState, offer_all, store_after_reply, store_after_ack, message_change, item_change, store_step}
 use Rattle.kv_store.specs.Growth.{IsFront, JournalsGrow}
 
--- a journal is the front of itself, and of itself with more; a front of a front is a front
-pub front_same : (journal : List JournalEntry) → IsFront journal journal
-front_same journal = record { more = []; is = sym (append-nil journal) }
+-- a list is the front of itself, and of itself with more; a front of a front is a front
+pub front_same : {X : Type 0} (xs : List X) → IsFront xs xs
+front_same xs = record { more = []; is = sym (append-nil xs) }
 
-pub front_with : (journal more : List JournalEntry) → IsFront journal (journal ++ more)
-front_with journal more = record { more = more; is = refl }
+pub front_with : {X : Type 0} (xs more : List X) → IsFront xs (xs ++ more)
+front_with xs more = record { more = more; is = refl }
 
-pub front_then : (first second third : List JournalEntry) → IsFront first second → IsFront second third → IsFront first third
+pub front_then : {X : Type 0} (first second third : List X) → IsFront first second → IsFront second third → IsFront first third
 front_then first second third f g = record {
   more = f.more ++ g.more;
-  is = g.is ∙ ap (λ js. js ++ g.more) f.is ∙ append_assoc first f.more g.more;
+  is = g.is ∙ ap (λ xs. xs ++ g.more) f.is ∙ append_assoc first f.more g.more;
 }
 
-front_if : (test : Bool) (first second : List JournalEntry) → IsFront first second → IsFront first (if test then second else first)
+front_if : {X : Type 0} (test : Bool) (first second : List X) → IsFront first second → IsFront first (if test then second else first)
 front_if true first second f = f
 front_if false first second f = front_same first
 
 -- it is no longer than the other
-pub front_shorter : (front whole : List JournalEntry) → IsFront front whole → length front ≤ length whole
+pub front_shorter : {X : Type 0} (front whole : List X) → IsFront front whole → length front ≤ length whole
 front_shorter front whole f = omega (arith, ap length f.is, length-append front f.more)
 
 offer_grows : (journal : List JournalEntry) (pair : Pair) (now : ℕ) (origin : Origin) → IsFront journal (offer journal pair now origin)
@@ -73,7 +73,7 @@ message_grows s link from _ = front_same s.journal
 
 item_grows : (s : StoreState) (item : Item) → IsFront s.journal (item_change s item).store.journal
 unfolding item_change
-item_grows s (Tick at) = front_with s.journal (map (λ key. Expired key at) (due s.journal at))
+item_grows s (Tick at) = front_with s.journal (map (λ key. Expired key at) (keys_lost s.journal at))
 item_grows s (Set pair) = offer_grows s.journal pair s.moment origin.Local
 item_grows s Restart = front_with s.journal (Cleared s.moment ∷ [])
 item_grows s (Net link from msg) = message_grows s link from msg

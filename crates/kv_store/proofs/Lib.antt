@@ -3,3 +3,4 @@ pub mod Growth
 pub mod Starting
 pub mod Responding
 pub mod Turn
+pub mod Numbered

@@ -14,6 +14,7 @@
 #![tactic(auto)]
 
 ghost use Rattle.kv_store.specs.Growth.{JournalsGrow};
+ghost use Rattle.kv_store.specs.Numbered.{NumbersStayApart};
 
 mod answers;
 mod floods;
@@ -26,4 +27,10 @@ pub use store::KvModule;
 /// A turn only adds to a store's journal.
 pub fn journals_grow()
     ensures { JournalsGrow }
+{}
+
+/// The full syncs that a store started, those that run and those that were finished, have numbers of their own, as long as
+/// the counter of numbers doesn't saturate; and what was finished stays finished.
+pub fn numbers_stay_apart()
+    ensures { NumbersStayApart }
 {}

@@ -1,3 +1,5 @@
+ghost use Rattle.std.specs.Prelude.{◌≡◌};
+
 use or_base::{DigestRow, Key, Name, Seq};
 
 /// What a turn has to respond with, beside what it floods.
@@ -34,4 +36,14 @@ pub enum Response {
 pub struct Remaining {
     pub response: Response,
     pub passed: Seq<Name>,
+}
+
+impl Remaining {
+    /// This response, and a flood that has passed these nodes. It takes no memory.
+    pub fn new(response: Response, passed: Seq<Name>) -> Remaining
+        ensures response { result.response ≡ response }
+        ensures passed { result.passed ≡ passed }
+    {
+        Remaining { response, passed }
+    }
 }

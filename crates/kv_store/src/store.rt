@@ -220,23 +220,20 @@ impl KvModule {
         ensures response { IfOk result (λ left. left.response ≡ (message_change self.old link from msg).response) }
         ensures passed { IfOk result (λ left. left.passed ≡ (message_change self.old link from msg).passed) }
     {
-        let nothing = Seq::from_vec(Vec::new(self.alloc));
+        let none = Seq::from_vec(Vec::new(self.alloc));
         match msg {
             Msg::Flood { passed, pairs } => {
                 self.take_flood(passed.as_slice(), pairs.into_vec())?;
-                Ok(Remaining {
-                    response: Response::Nothing,
-                    passed,
-                })
+                Ok(Remaining::new(Response::Nothing, passed))
             }
-            Msg::Dump { session, digest } => Ok(Remaining {
-                response: Response::Reply {
+            Msg::Dump { session, digest } => {
+                let reply = Response::Reply {
                     link,
                     session,
                     digest,
-                },
-                passed: nothing,
-            }),
+                };
+                Ok(Remaining::new(reply, none))
+            }
             Msg::Reply {
                 session,
                 b0,
@@ -246,29 +243,19 @@ impl KvModule {
             } => {
                 let pairs = pairs.into_vec();
                 let arrived = self.take_reply(link, session, b0, pairs, withheld)?;
-                Ok(Remaining {
-                    response: response_to_reply(arrived, link, wanted),
-                    passed: one(self.alloc, from)?,
-                })
+                let push = response_to_reply(arrived, link, wanted);
+                Ok(Remaining::new(push, one(self.alloc, from)?))
             }
             Msg::Push { session, pairs } => {
                 self.offer(pairs.into_vec(), Origin::SyncPush)?;
-                Ok(Remaining {
-                    response: Response::Ack { link, session },
-                    passed: one(self.alloc, from)?,
-                })
+                let ack = Response::Ack { link, session };
+                Ok(Remaining::new(ack, one(self.alloc, from)?))
             }
             Msg::Ack { session } => {
                 self.take_ack(link, session)?;
-                Ok(Remaining {
-                    response: Response::Nothing,
-                    passed: nothing,
-                })
+                Ok(Remaining::new(Response::Nothing, none))
             }
-            _other => Ok(Remaining {
-                response: Response::Nothing,
-                passed: nothing,
-            }),
+            _other => Ok(Remaining::new(Response::Nothing, none)),
         }
     }
 

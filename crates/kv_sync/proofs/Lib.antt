@@ -1,6 +1,7 @@
-pub mod Rows
+pub mod Places
 pub mod Numbers
 pub mod Written
 pub mod Current
 pub mod Law
+pub mod Finished
 pub mod Onward

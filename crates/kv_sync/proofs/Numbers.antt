@@ -13,7 +13,7 @@ use Rattle.kv_sync.specs.declared.session.Session.{Session}
 use Rattle.kv_sync.specs.Running.{IsGiven, IsApart, AreApart, AreNumbered}
 
 -- no session of the entries has this number
-abbrev IsUnlike : ℕ → ℕ × Session → Type 0
+abbrev pub IsUnlike : ℕ → ℕ × Session → Type 0
 IsUnlike number entry = number ≢ entry.1.number
 
 pub some_not_none : {X : Type 0} {x : X} {o : Option X} → o ≡ Some x → o ≡ None → ⊥
@@ -77,7 +77,7 @@ none_after e link (f ∷ es) before apart = by_order (none_after e link es befor
       absurd (omega (arith, same, before, apart.0.0))
   by_order later Greater is = later
 
-found_apart : (e : ℕ × Session) (link : ℕ) (t : Session) (es : List (ℕ × Session)) → AllByRecursion (IsApart e) es
+pub found_apart : (e : ℕ × Session) (link : ℕ) (t : Session) (es : List (ℕ × Session)) → AllByRecursion (IsApart e) es
     → lookup (is_at (nat_cmp link)) es ≡ Some t → e.1.number ≢ t.number
 found_apart e link t [] apart found = absurd (some_not_none found refl)
 found_apart e link t (f ∷ es) apart found = by_order (found_apart e link t es apart.1) (nat_cmp link f.0) found where
@@ -87,7 +87,7 @@ found_apart e link t (f ∷ es) apart found = by_order (found_apart e link t es 
   by_order later Equal found = λ same. apart.0.1 (same ∙ ap (λ u. u.number) (sym (the_same found)))
   by_order later Greater found = later found
 
-found_given : (last link : ℕ) (t : Session) (es : List (ℕ × Session)) → AllByRecursion (IsGiven last) es → lookup (is_at (nat_cmp link)) es ≡ Some t → t.number ≤ last
+pub found_given : (last link : ℕ) (t : Session) (es : List (ℕ × Session)) → AllByRecursion (IsGiven last) es → lookup (is_at (nat_cmp link)) es ≡ Some t → t.number ≤ last
 found_given last link t [] given found = absurd (some_not_none found refl)
 found_given last link t (e ∷ es) given found = by_order (found_given last link t es given.1) (nat_cmp link e.0) found where
   by_order : (lookup (is_at (nat_cmp link)) es ≡ Some t → t.number ≤ last)
@@ -98,7 +98,7 @@ found_given last link t (e ∷ es) given found = by_order (found_given last link
       omega (arith, given.0, same)
   by_order later Greater found = later found
 
-unlike_others : (e : ℕ × Session) (s : Session) (es : List (ℕ × Session)) → e.1.number ≡ s.number → AllByRecursion (IsApart e) es → AllByRecursion (IsUnlike s.number) es
+pub unlike_others : (e : ℕ × Session) (s : Session) (es : List (ℕ × Session)) → e.1.number ≡ s.number → AllByRecursion (IsApart e) es → AllByRecursion (IsUnlike s.number) es
 unlike_others e s [] same apart = tt
 unlike_others e s (f ∷ es) same apart = (λ other. apart.0.1 (same ∙ other), unlike_others e s es same apart.1)
 

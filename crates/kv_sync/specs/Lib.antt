@@ -1,4 +1,5 @@
 pub mod Difference
+pub mod Places
 pub mod Sessions
 pub mod Running
 pub mod Messages

@@ -1,13 +1,15 @@
 ghost use Rattle.std.specs.Prelude.{◌≡◌, IfOk};
 ghost use Rattle.std.specs.Option.{option_map};
 ghost use Rattle.or_base.specs.Journal.{held_value};
-ghost use Rattle.kv_sync.specs.Difference.{row_for, keys_of, rank_cmp, is_better, is_wanted, is_better_than, is_wanted_over, better_keys, wanted_keys};
+ghost use Rattle.kv_value.specs.Hashing.{hash_of};
+ghost use Rattle.kv_sync.specs.Difference.{row_for, rank_cmp, is_better, is_wanted, is_better_than, is_wanted_over, better_keys, wanted_keys};
+ghost use Rattle.kv_sync.specs.Places.{ArePlacesOf};
 
 use kv_table::KvTable;
-use kv_value::hash_of;
-use or_base::{DigestRow, Key, KvValue, NoMemory, held_keys, insert_key};
+use or_base::{DigestRow, Key, KvValue, NoMemory};
 use std::alloc::Global;
 use std::cmp::Ordering;
+use std::collections::BTreeMap;
 
 /// How a digest differs from what a table holds. Both lists are in byte order.
 #[derive(Drop)]
@@ -18,30 +20,31 @@ pub struct Difference {
     pub wanted: Vec<Key>,
 }
 
-/// The first row that names the key.
-fn row_for<'a>(rows: &'a [DigestRow], key: &Key) -> Option<&'a DigestRow>
-    ensures { option_map (λ row. row.now) result ≡ row_for rows.now key.now }
+/// For each key of the rows, the place of the first row that names it. The rows may come in any order.
+#[tactic(auto, using(crate::proofs::Places::places_onto_last))]
+fn places_of(alloc: Global, rows: &[DigestRow]) -> Result<BTreeMap<Key, usize>, NoMemory>
+    ensures { IfOk result (λ places. ArePlacesOf rows.now places.entries) }
 {
-    for row in rows {
-        if row.key.as_str() == key.as_str() {
-            return Some(row);
-        }
-    }
-    None
-}
-
-/// The keys of the rows, each once and in byte order.
-#[tactic(auto, using(crate::proofs::Rows::keys_onto_nothing, crate::proofs::Rows::keys_onto_last))]
-fn keys_of(alloc: Global, rows: &[DigestRow]) -> Result<Vec<Key>, NoMemory>
-    ensures { IfOk result (λ keys. keys.items ≡ keys_of rows.now) }
-{
-    let mut keys = Vec::new(alloc);
+    let mut places = BTreeMap::new(alloc);
     let mut left = rows;
     while let Some((row, others)) = left.split_last() {
-        insert_key(&mut keys, &row.key)?;
+        places.insert(row.key.copied()?, others.len())?;
         left = others;
     }
-    Ok(keys)
+    Ok(places)
+}
+
+/// The row of the key, which its place tells.
+fn row_at<'a>(
+    rows: &'a [DigestRow],
+    places: &BTreeMap<Key, usize>,
+    key: &Key,
+) -> Option<&'a DigestRow>
+    requires { ArePlacesOf rows.now places.now.entries }
+    ensures { option_map (λ row. row.now) result ≡ row_for rows.now key.now }
+{
+    let place = places.get(key)?;
+    rows.get(*place)
 }
 
 /// Compares a held value with a row of its key, by version and originator.
@@ -55,62 +58,70 @@ fn rank_cmp(v: &KvValue, row: &DigestRow) -> Ordering
 
 /// Whether what is held is worth sending to a store with this row.
 #[tactic(auto, unfolding(crate::specs::Difference::is_better))]
-fn is_better(v: &KvValue, row: &DigestRow) -> bool
+fn is_better(v: &KvValue, hash: u64, row: &DigestRow) -> bool
+    requires { hash ≡ hash_of v.now }
     ensures { result ≡ is_better v.now row.now }
 {
     match rank_cmp(v, row) {
         Ordering::Less => false,
-        Ordering::Equal => hash_of(v) != row.hash || row.ttl_version < v.ttl_version,
+        Ordering::Equal => hash != row.hash || row.ttl_version < v.ttl_version,
         Ordering::Greater => true,
     }
 }
 
 /// Whether what the row stands for is worth having beside what is held.
 #[tactic(auto, unfolding(crate::specs::Difference::is_wanted))]
-fn is_wanted(v: &KvValue, row: &DigestRow) -> bool
+fn is_wanted(v: &KvValue, hash: u64, row: &DigestRow) -> bool
+    requires { hash ≡ hash_of v.now }
     ensures { result ≡ is_wanted v.now row.now }
 {
     match rank_cmp(v, row) {
         Ordering::Less => true,
-        Ordering::Equal => hash_of(v) != row.hash || v.ttl_version < row.ttl_version,
+        Ordering::Equal => hash != row.hash || v.ttl_version < row.ttl_version,
         Ordering::Greater => false,
     }
 }
 
 /// Whether the key is held, and its row, if there is one, isn't better.
-fn is_better_than(table: &KvTable, rows: &[DigestRow], key: &Key) -> bool
-    ensures { result ≡ is_better_than (held_value table.now key.now) (row_for rows.now key.now) }
+fn is_better_than(table: &KvTable, key: &Key, row: Option<&DigestRow>) -> bool
+    ensures { result ≡ is_better_than (held_value table.now key.now) (option_map (λ r. r.now) row.entry) }
 {
-    match table.get(key) {
+    match table.value_with_hash(key) {
         None => false,
-        Some(held) => match row_for(rows, key) {
+        Some((value, hash)) => match row {
             None => true,
-            Some(row) => is_better(held.value, row),
+            Some(row) => is_better(value, hash, row),
         },
     }
 }
 
 /// Whether the key has a row, and what is held under it, if something is, isn't better.
-fn is_wanted_over(table: &KvTable, rows: &[DigestRow], key: &Key) -> bool
-    ensures { result ≡ is_wanted_over (held_value table.now key.now) (row_for rows.now key.now) }
+fn is_wanted_over(table: &KvTable, key: &Key, row: Option<&DigestRow>) -> bool
+    ensures { result ≡ is_wanted_over (held_value table.now key.now) (option_map (λ r. r.now) row.entry) }
 {
-    match row_for(rows, key) {
+    match row {
         None => false,
-        Some(row) => match table.get(key) {
+        Some(row) => match table.value_with_hash(key) {
             None => true,
-            Some(held) => is_wanted(held.value, row),
+            Some((value, hash)) => is_wanted(value, hash, row),
         },
     }
 }
 
 /// The keys whose held values a store with these rows should get, in byte order.
 #[tactic(auto, unfolding(crate::specs::Difference::better_keys))]
-fn better_keys(alloc: Global, rows: &[DigestRow], table: &KvTable) -> Result<Vec<Key>, NoMemory>
+fn better_keys(
+    alloc: Global,
+    rows: &[DigestRow],
+    places: &BTreeMap<Key, usize>,
+    table: &KvTable,
+) -> Result<Vec<Key>, NoMemory>
+    requires { ArePlacesOf rows.now places.now.entries }
     ensures { IfOk result (λ keys. keys.items ≡ better_keys rows.now table.now) }
 {
     let mut better = Vec::new(alloc);
-    for key in held_keys(alloc, table.journal())? {
-        if is_better_than(table, rows, &key) {
+    for key in table.held_keys()? {
+        if is_better_than(table, &key, row_at(rows, places, &key)) {
             better.push(key)?;
         }
     }
@@ -119,13 +130,19 @@ fn better_keys(alloc: Global, rows: &[DigestRow], table: &KvTable) -> Result<Vec
 
 /// The keys whose values the store that holds these should get, in byte order.
 #[tactic(auto, unfolding(crate::specs::Difference::wanted_keys))]
-fn wanted_keys(alloc: Global, rows: &[DigestRow], table: &KvTable) -> Result<Vec<Key>, NoMemory>
+fn wanted_keys(
+    alloc: Global,
+    rows: &[DigestRow],
+    places: &BTreeMap<Key, usize>,
+    table: &KvTable,
+) -> Result<Vec<Key>, NoMemory>
+    requires { ArePlacesOf rows.now places.now.entries }
     ensures { IfOk result (λ keys. keys.items ≡ wanted_keys rows.now table.now) }
 {
     let mut wanted = Vec::new(alloc);
-    for key in keys_of(alloc, rows)? {
-        if is_wanted_over(table, rows, &key) {
-            wanted.push(key)?;
+    for key in places.keys() {
+        if is_wanted_over(table, key, row_at(rows, places, key)) {
+            wanted.push(key.copied()?)?;
         }
     }
     Ok(wanted)
@@ -136,8 +153,9 @@ pub fn diff(alloc: Global, digest: &[DigestRow], table: &KvTable) -> Result<Diff
     ensures better { IfOk result (λ difference. difference.better.items ≡ better_keys digest.now table.now) }
     ensures wanted { IfOk result (λ difference. difference.wanted.items ≡ wanted_keys digest.now table.now) }
 {
+    let places = places_of(alloc, digest)?;
     Ok(Difference {
-        better: better_keys(alloc, digest, table)?,
-        wanted: wanted_keys(alloc, digest, table)?,
+        better: better_keys(alloc, digest, &places, table)?,
+        wanted: wanted_keys(alloc, digest, &places, table)?,
     })
 }

@@ -14,8 +14,9 @@
 //! rise with each start, and no two running sessions share one; and that a running session goes from Dumped to Pushed
 //! and ends as said (`sessions_go_on`).
 //!
-//! This is the plain body: `diff` looks for the row of each key from the front, and hashes a held value at most once for
-//! each list.
+//! `diff` looks up the row of each key by a map of the rows, which may come in any order and name a key more than once,
+//! and takes the hash of a held value from the table. So it costs a few steps in an ordered map for each row and each
+//! held key.
 //!
 //! The files: `difference` (how a digest differs from a table), `messages` (replies and acknowledgements), `session` (plain
 //! data), `sessions` (those that run).

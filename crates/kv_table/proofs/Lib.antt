@@ -1,3 +1,4 @@
-pub mod Inserted
-pub mod Order
+pub mod Changes
+pub mod Expiring
+pub mod Found
 pub mod Rows

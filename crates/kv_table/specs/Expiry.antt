@@ -15,13 +15,13 @@ abbrev pub is_due_at : ℕ → Option ℕ → Bool
 is_due_at moment deadline = option_map_or (λ d. d == moment) deadline false
 
 -- the keys that are lost at this moment, in byte order
-abbrev pub due_at : List JournalEntry → ℕ → List (List ℕ)
-due_at journal moment = filter (λ key. is_due_at moment (deadline_of journal key)) (held_keys journal)
+abbrev pub keys_lost_at : List JournalEntry → ℕ → List (List ℕ)
+keys_lost_at journal moment = filter (λ key. is_due_at moment (deadline_of journal key)) (held_keys journal)
 
 -- the keys that are lost up to a moment: those of moment 0, of moment 1 and so on
-unfoldable pub due : List JournalEntry → ℕ → List (List ℕ)
-due journal now = flat_map (due_at journal) (range_with_len 0 (now + 1))
+unfoldable pub keys_lost : List JournalEntry → ℕ → List (List ℕ)
+keys_lost journal now = flat_map (keys_lost_at journal) (range_with_len 0 (now + 1))
 
 -- the journal after the keys that are due at a moment are lost
 abbrev pub expire : List JournalEntry → ℕ → List JournalEntry
-expire journal now = journal ++ map (λ key. Expired key now) (due journal now)
+expire journal now = journal ++ map (λ key. Expired key now) (keys_lost journal now)

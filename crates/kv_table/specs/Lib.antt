@@ -1,5 +1,5 @@
 pub mod Offered
 pub mod Expiry
-pub mod Deadlines
+pub mod Slots
 pub mod Sending
 pub mod Digest

@@ -1,4 +1,4 @@
-//! A table of values, one under each key, whose journal is all that it keeps.
+//! A table of values, one under each key, whose journal is its meaning.
 //!
 //! A store offers it pairs and looks values up. An offer is merged exactly where the pair is within the limits and
 //! its value exceeds what is held under its key (`offer`, defined in or_base); every merge is an entry at the end of
@@ -6,19 +6,21 @@
 //! entry for each (`expire`, defined in `specs/Expiry.antt`), and a store that restarts loses all of them with one
 //! entry (`clear`); nothing else changes the table. What it sends of keys, with the lifetime that is left, is defined in
 //! `specs/Sending.antt`, and the digest that tells of it without its values in `specs/Digest.antt`. Contracts see the
-//! table as its journal, so what they say of it stays true of any faster table. This is the plain body: a lookup scans
-//! the journal from its end (or_base's `holds`), so its time is linear in the journal's length. The promise is
-//! that `get` is `holds` and `offer` is `offer` of or_base, to the entry; the law that the greatest value offered is
-//! held follows from or_base's `offers_hold_greatest`.
+//! table as its journal. Beside the journal the table keeps, as the invariant of its type (`specs/Slots.antt`), for each
+//! held key the place of its merge and the hash of its value, and in a `Wheel` of or_timer the deadlines of the held
+//! keys. So `get` and `offer` cost a few steps in an ordered map, `expire` goes through what is due alone, and `digest`
+//! hashes nothing. The promise is that `get` is `holds` and `offer` is `offer` of or_base, to the entry; the law that the
+//! greatest value offered is held follows from or_base's `offers_hold_greatest`.
 //!
-//! The files: `digest` (what the table tells of itself), `expiry` (the deadlines that are due), `offered` (what becomes of
-//! an offer), `sending` (what is sent of keys), `table`.
+//! The files: `digest` (what the table tells of itself), `keeping` (what is kept beside the journal as it changes),
+//! `offered` (what becomes of an offer), `sending` (what is sent of keys), `slot` (plain data), `table`.
 #![tactic(auto)]
 
 mod digest;
-mod expiry;
+mod keeping;
 mod offered;
 mod sending;
+mod slot;
 mod table;
 
 pub use offered::Offered;

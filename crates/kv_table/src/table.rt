@@ -1,34 +1,44 @@
 ghost use Rattle.std.specs.Prelude.{◌≡◌, ◌<◌, ◌^◌, ◌++◌, ◌∷◌, [], length, IfOk, OnOk, OnErr};
 
-use crate::expiry::{Deadline, deadlines_due};
+use crate::keeping::{deadline_from, keep, merged_at};
 use crate::offered::Offered;
-use kv_value::value_cmp;
-use or_base::{Held, JournalEntry, Key, NoMemory, Origin, Pair, holds, is_valid_pair};
+use crate::slot::Slot;
+use kv_value::{hash_of, value_cmp};
+use or_base::{Held, JournalEntry, Key, KvValue, NoMemory, Origin, Pair, is_valid_pair};
+use or_timer::Wheel;
 use std::alloc::Global;
 use std::cmp::Ordering;
+use std::collections::BTreeMap;
 use std::marker::Model;
 
-/// A table of values. Contracts see its journal.
+/// A table of values. Contracts see its journal. Beside it the table keeps a slot for each held key and the deadlines of
+/// the held keys, so that no call scans the journal.
 #[derive(Drop)]
 pub struct KvTable {
     entries: Vec<JournalEntry>,
+    slots: BTreeMap<Key, Slot>,
+    wheel: Wheel,
 }
 
 impl Model for KvTable {
     ghost use Rattle.std.specs.Prelude.{List};
     ghost use Rattle.or_base.specs.declared.entry.JournalEntry.{JournalEntry};
+    ghost use Rattle.kv_table.specs.Slots.{IsKeptFor};
 
     ghost Value = { List JournalEntry };
 
     ghost view = { λ table. table.entries.items };
+
+    ghost invariant = { λ table. IsKeptFor table.entries.items table.slots.entries table.wheel };
 }
 
 impl KvTable {
     ghost use Rattle.std.specs.Option.{option_map};
-    ghost use Rattle.or_base.specs.declared.entry.JournalEntry.TheVariants.{Cleared};
-    ghost use Rattle.or_base.specs.Journal.{holds, offer};
+    ghost use Rattle.or_base.specs.declared.entry.JournalEntry.TheVariants.{Merged, Cleared};
+    ghost use Rattle.or_base.specs.Journal.{holds, held_keys, offer};
     ghost use Rattle.kv_table.specs.Offered.{offered_of};
-    ghost use Rattle.kv_table.specs.Expiry.{due, expire};
+    ghost use Rattle.kv_table.specs.Expiry.{keys_lost, expire};
+    ghost use Rattle.kv_table.specs.Slots.{with_hash};
 
     /// A table that holds nothing.
     pub fn new(alloc: Global) -> Result<KvTable, NoMemory>
@@ -36,6 +46,8 @@ impl KvTable {
     {
         Ok(KvTable {
             entries: Vec::new(alloc),
+            slots: BTreeMap::new(alloc),
+            wheel: Wheel::new(alloc),
         })
     }
 
@@ -56,7 +68,48 @@ impl KvTable {
     pub fn get(&self, key: &Key) -> Option<Held<'_>>
         ensures { option_map (λ held. (held.value.now, held.merged_at)) result ≡ holds self.now key.now }
     {
-        holds(self.entries.as_slice(), key)
+        let slot = self.slots.get(key)?;
+        merged_at(self.entries.as_slice(), slot.place)
+    }
+
+    /// The value that is held under the key, with its hash. It takes no memory, and hashes nothing.
+    pub fn value_with_hash(&self, key: &Key) -> Option<(&KvValue, u64)>
+        ensures { option_map (λ found. (found.0.now, found.1)) result ≡ option_map with_hash (holds self.now key.now) }
+    {
+        let slot = self.slots.get(key)?;
+        let held = merged_at(self.entries.as_slice(), slot.place)?;
+        Some((held.value, slot.hash))
+    }
+
+    /// The keys under which something is held, each once and in byte order.
+    pub fn held_keys(&self) -> Result<Vec<Key>, NoMemory>
+        ensures { IfOk result (λ keys. keys.items ≡ held_keys self.now) }
+    {
+        let mut keys = Vec::new(self.alloc());
+        for key in self.slots.keys() {
+            keys.push(key.copied()?)?;
+        }
+        Ok(keys)
+    }
+
+    /// Merges the pair. Where memory runs out the table stays as it was: all of it is taken before the journal changes.
+    fn merge(&mut self, pair: Pair, now: u64, origin: Origin) -> Result<(), NoMemory>
+        ensures ok { OnOk result (self.new ≡ self.old ++ Merged pair now origin ∷ []) }
+        ensures err { OnErr result (self.new ≡ self.old) }
+    {
+        self.entries.reserve(1)?;
+        let slot = Slot {
+            place: self.entries.len(),
+            hash: hash_of(&pair.value),
+        };
+        let deadline = deadline_from(now, pair.value.ttl);
+        keep(&mut self.slots, &mut self.wheel, &pair.key, slot, deadline)?;
+        self.entries.push_reserved(JournalEntry::Merged {
+            pair,
+            at: now,
+            origin,
+        });
+        Ok(())
     }
 
     /// Merges the pair if it is within the limits and its value exceeds what is held under its key, and tells what
@@ -74,11 +127,7 @@ impl KvTable {
                 return Ok(Offered::Kept);
             }
         }
-        self.entries.push(JournalEntry::Merged {
-            pair,
-            at: now,
-            origin,
-        })?;
+        self.merge(pair, now, origin)?;
         Ok(Offered::Changed)
     }
 
@@ -86,18 +135,18 @@ impl KvTable {
     /// is the moment of its merge and its time to live; what is held for ever has none. Where memory runs out the table
     /// stays as it was.
     pub fn expire(&mut self, now: u64) -> Result<u64, NoMemory>
-        ensures count { IfOk result (λ n. n ≡ length (due self.old now)) }
+        ensures count { IfOk result (λ n. n ≡ length (keys_lost self.old now)) }
         ensures ok { OnOk result (self.new ≡ expire self.old now) }
         ensures err { OnErr result (self.new ≡ self.old) }
     {
-        let lost = deadlines_due(self.alloc(), self.entries.as_slice(), now)?;
-        let count = lost.len() as u64;
-        self.entries.reserve(lost.len())?;
-        for Deadline { key, .. } in lost {
+        let count = self.wheel.count_due(now);
+        self.entries.reserve(count)?;
+        for key in self.wheel.due(now)? {
+            let _slot = self.slots.remove(&key);
             self.entries
                 .push_reserved(JournalEntry::Expired { key, at: now });
         }
-        Ok(count)
+        Ok(count as u64)
     }
 
     /// Loses all that is held, as a store that restarts at the moment `now` does. Where memory runs out the table stays
@@ -107,6 +156,8 @@ impl KvTable {
         ensures err { OnErr result (self.new ≡ self.old) }
     {
         self.entries.push(JournalEntry::Cleared { at: now })?;
+        self.slots.clear();
+        self.wheel.clear();
         Ok(())
     }
 }

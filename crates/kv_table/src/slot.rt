@@ -1,0 +1,8 @@
+/// Where the value that is held under a key was merged, and its hash.
+#[derive(Clone, Copy, Debug, PartialEq, Eq)]
+pub struct Slot {
+    /// The place of the entry in the journal.
+    pub place: usize,
+    /// `hash_of` the value.
+    pub hash: u64,
+}
