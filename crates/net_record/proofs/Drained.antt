@@ -1,5 +1,5 @@
 -- After the last settle no item waits, and each phase has its settle.
-use Rattle.std.proofs.Common.{◌≡◌, ℕ, zero, suc, ◌+◌, List, [], ◌∷◌, Bool, true, false, cond, ◌||◌, not, Option, Some, None, length, map, refl, ◌∙◌, ap, arith}
+use Rattle.std.proofs.Common.{◌≡◌, ℕ, zero, suc, ◌+◌, List, [], ◌∷◌, Bool, true, false, ◌||◌, not, Option, Some, None, length, refl, ◌∙◌, ap, arith}
 use Rattle.std.specs.Prelude.{replicate, slice_get}
 use Rattle.std.specs.List.{list_all}
 use Rattle.std.proofs.lemmas.List.{length_push}
@@ -7,6 +7,7 @@ use Rattle.or_base.specs.declared.item.Stamped.{Stamped}
 use Rattle.or_actor.specs.declared.output.Output.{Output}
 use Rattle.net_record.specs.declared.phase.Phase.{Phase}
 use Rattle.net_record.specs.declared.actor.ActorState.{ActorState}
+use Rattle.net_record.specs.declared.record.SettleDone.{SettleDone}
 use Rattle.net_record.specs.Roles.{roles}
 use Rattle.net_record.specs.Wires.{wires}
 use Rattle.net_record.specs.Phases.{phases}
@@ -15,8 +16,10 @@ use Rattle.net_record.specs.Actors.{made_by}
 use Rattle.net_record.specs.Answers.{desks_asked, giving_of}
 use Rattle.net_record.specs.World.{WorldState, waiting, turn, turn_of, turn_by, reader_of, is_empty, is_drained, issue, settle, settle_done, start}
 use Rattle.net_record.specs.Budget.{is_over}
-use Rattle.net_record.specs.Rounds.{Marked, longest, turns_on, round_from, round, after_round, rounds_of, phase_of, settle_after, rounds_from, round_robin}
+use Rattle.net_record.specs.Rounds.{Marked, longest, rounds_of, phase_of, settle_after, round_robin}
+use Rattle.net_record.proofs.Counted.{rounds_from}
 use Rattle.net_record.proofs.RoundRuns.{goes_on, drained-or}
+use Rattle.net_record.proofs.Kept.{TurnsKeep, keep_rounds_of}
 use Rattle.net_record.specs.Ends.{SettledRoundsEndDrained}
 
 settles-turn_of : (w : WorldState) (reader : ℕ) (others : List Stamped) (actor : ActorState) (m : TurnMade) → (turn_of w reader others actor m).settles ≡ w.settles
@@ -34,31 +37,15 @@ settles-turn w lane at =
     let reader = reader_of (slice_get w.wires lane) in
     settles-turn_by w lane at reader (waiting w lane) (slice_get w.actors reader)
 
-settles_within : (over : Bool) (w v : WorldState) → v.settles ≡ w.settles → (cond over w v).settles ≡ w.settles
-settles_within true w v e = refl
-settles_within false w v e = e
+-- these settles are done
+abbrev HasSettled : List SettleDone → WorldState → Type 0
+HasSettled settles w = w.settles ≡ settles
 
-settles-turns_on : (w : WorldState) (lane count : ℕ) → (turns_on w lane count).settles ≡ w.settles
-settles-turns_on w lane zero = refl
-settles-turns_on w lane (suc count) =
-    settles_within (is_over w) w (turns_on (turn w lane (longest w lane)) lane count) (settles-turns_on (turn w lane (longest w lane)) lane count ∙ settles-turn w lane (longest w lane))
-
-settles-round_from : (w : WorldState) (lane : ℕ) (counts : List ℕ) → (round_from w lane counts).settles ≡ w.settles
-settles-round_from w lane [] = refl
-settles-round_from w lane (count ∷ counts) = settles-round_from (turns_on w lane count) (lane + 1) counts ∙ settles-turns_on w lane count
-
-settles-round : (w : WorldState) → (round w).settles ≡ w.settles
-unfolding round
-settles-round w = settles-round_from w 0 (map length w.lanes)
-
-settles_if : (stop : Bool) (m n : Marked) → n.world.settles ≡ m.world.settles → (cond stop m n).world.settles ≡ m.world.settles
-settles_if true m n e = refl
-settles_if false m n e = e
+turns_settle_nothing : (settles : List SettleDone) → TurnsKeep (HasSettled settles)
+turns_settle_nothing settles w lane within e = settles-turn w lane (longest w lane) ∙ e
 
 pub settles-rounds_of : (m : Marked) (count : ℕ) → (rounds_of m count).world.settles ≡ m.world.settles
-settles-rounds_of m zero = refl
-settles-rounds_of m (suc count) =
-    settles_if (is_drained m.world || is_over m.world) m (rounds_of (after_round m) count) (settles-rounds_of (after_round m) count ∙ settles-round m.world)
+settles-rounds_of m count = keep_rounds_of (HasSettled m.world.settles) (turns_settle_nothing m.world.settles) m count refl
 
 pub settles-issue : (w : WorldState) (issues : List Output) → (issue w issues).settles ≡ w.settles
 unfolding issue
@@ -96,7 +83,7 @@ ends (phase ∷ phases) number m drained settles =
     ends_phase phases (ends phases) number (length m.world.settles) phase done (is_over done.world || not (is_drained done.world)) (is_over (settle_after phase done).world) refl
     (ap length (settles-rounds_of (record { world = issue m.world phase.issues; marks = m.marks }) phase.rounds ∙ settles-issue m.world phase.issues)) settles
 
-none_wait : (n : ℕ) → list_all is_empty (replicate n []) ≡ true
+pub none_wait : (n : ℕ) → list_all is_empty (replicate n []) ≡ true
 none_wait zero = refl
 none_wait (suc n) = none_wait n
 

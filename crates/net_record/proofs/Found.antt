@@ -40,7 +40,7 @@ within_longer actors after None longer h = tt
 within_longer actors after (Some d) longer h = omega (arith, h, longer d.store)
 
 -- another actor in the place of one
-set_longer : (actors : List ActorState) (n : ℕ) (after : ActorState) → entries_at actors n ≤ length (entries_of after.part)
+pub set_longer : (actors : List ActorState) (n : ℕ) (after : ActorState) → entries_at actors n ≤ length (entries_of after.part)
     → (number : ℕ) → entries_at actors number ≤ entries_at (set actors n after) number
 set_longer actors n after longer number =
     elim (cases_eq number n) [
@@ -167,14 +167,14 @@ entries_settled lengths (Desk d) = refl
 entries_settled lengths (Module m) = refl
 
 -- the length of a journal, among all of them
-length_at : (actors : List ActorState) (number : ℕ) → get_or (journal_lengths actors) number 0 ≡ entries_at actors number
+pub length_at : (actors : List ActorState) (number : ℕ) → get_or (journal_lengths actors) number 0 ≡ entries_at actors number
 length_at [] zero = refl
 length_at [] (suc number) = refl
 length_at (actor ∷ actors) zero = refl
 length_at (actor ∷ actors) (suc number) = length_at actors number
 
 -- journals are as long after a settle
-settled_long : (clock : ℕ) (lengths : List ℕ) (actors : List ActorState) (number : ℕ) → entries_at (map (actor_after_settle clock lengths) actors) number ≡ entries_at actors number
+pub settled_long : (clock : ℕ) (lengths : List ℕ) (actors : List ActorState) (number : ℕ) → entries_at (map (actor_after_settle clock lengths) actors) number ≡ entries_at actors number
 settled_long clock lengths [] zero = refl
 settled_long clock lengths [] (suc number) = refl
 settled_long clock lengths (actor ∷ actors) zero = ap length (entries_settled lengths actor.part)

@@ -22,11 +22,13 @@ use Rattle.net_record.specs.Answers.{Giving, desks_asked, give, give_all, giving
 use Rattle.net_record.specs.World.{WorldState, start, waiting, turn, turn_of, turn_by, reader_of, is_drained, issue, settle, settle_done, greatest_clock, mark_of_store, marks_of}
 use Rattle.net_record.specs.Budget.{is_over}
 use Rattle.net_record.specs.Records.{journal_of, journals_of}
-use Rattle.net_record.specs.Rounds.{Marked, longest, turns_on, round_from, round, after_round, rounds_of, phase_of, settle_after, rounds_from, round_robin}
+use Rattle.net_record.specs.Rounds.{Marked, longest, phase_of, settle_after, round_robin}
+use Rattle.net_record.proofs.Counted.{rounds_from}
 use Rattle.net_record.specs.Fronts.{settling_worlds, fronts, TellStores, SettlesTellStores}
 use Rattle.net_record.proofs.KindsGrow.{Grows, part_grows}
 use Rattle.net_record.proofs.Found.{there}
 use Rattle.net_record.proofs.RoundRuns.{goes_on}
+use Rattle.net_record.proofs.Kept.{RunsKeep, keep_rounds_from}
 use Rattle.net_record.proofs.Drained.{settles-rounds_of, settles-issue}
 
 -- ---- lists of journals
@@ -38,11 +40,11 @@ AllFronts [] (k ∷ ks) = ⊥
 AllFronts (j ∷ js) [] = ⊥
 AllFronts (j ∷ js) (k ∷ ks) = IsFront j k × AllFronts js ks
 
-fronts_same : (js : List (List JournalEntry)) → AllFronts js js
+pub fronts_same : (js : List (List JournalEntry)) → AllFronts js js
 fronts_same [] = tt
 fronts_same (j ∷ js) = (front_same j, fronts_same js)
 
-fronts_then : (js ks ls : List (List JournalEntry)) → AllFronts js ks → AllFronts ks ls → AllFronts js ls
+pub fronts_then : (js ks ls : List (List JournalEntry)) → AllFronts js ks → AllFronts ks ls → AllFronts js ls
 fronts_then [] [] ls f g = g
 fronts_then [] (k ∷ ks) ls f g = absurd f
 fronts_then (j ∷ js) [] ls f g = absurd f
@@ -111,48 +113,6 @@ grow_turn w lane at =
     let reader = reader_of (slice_get w.wires lane) in
     grow_by w lane at reader (waiting w lane) (slice_get w.actors reader) refl
 
--- ---- rounds
-
-grow_if : (over : Bool) (w v : WorldState) → Grow w v → Grow w (cond over w v)
-grow_if true w v f = grow_same w
-grow_if false w v f = f
-
-grow_turns_on : (w : WorldState) (lane count : ℕ) → Grow w (turns_on w lane count)
-grow_turns_on w lane zero = grow_same w
-grow_turns_on w lane (suc count) =
-    let v = turn w lane (longest w lane) in
-    grow_if (is_over w) w (turns_on v lane count) (grow_then w v (turns_on v lane count) (grow_turn w lane (longest w lane)) (grow_turns_on v lane count))
-
-grow_round_from : (w : WorldState) (lane : ℕ) (counts : List ℕ) → Grow w (round_from w lane counts)
-grow_round_from w lane [] = grow_same w
-grow_round_from w lane (count ∷ counts) =
-    let v = turns_on w lane count in
-    grow_then w v (round_from v (lane + 1) counts) (grow_turns_on w lane count) (grow_round_from v (lane + 1) counts)
-
-grow_round : (w : WorldState) → Grow w (round w)
-unfolding round
-grow_round w = grow_round_from w 0 (map length w.lanes)
-
-grow_rounds_if : (stop : Bool) (m n : Marked) → Grow m.world n.world → Grow m.world (cond stop m n).world
-grow_rounds_if true m n f = grow_same m.world
-grow_rounds_if false m n f = f
-
-grow_rounds_of : (m : Marked) (count : ℕ) → Grow m.world (rounds_of m count).world
-grow_rounds_of m zero = grow_same m.world
-grow_rounds_of m (suc count) =
-    let n = rounds_of (after_round m) count in
-    grow_rounds_if (is_drained m.world || is_over m.world) m n
-    (grow_then m.world (round m.world) n.world (grow_round m.world) (grow_rounds_of (after_round m) count))
-
-grow_issue : (w : WorldState) (issues : List Output) → Grow w (issue w issues)
-unfolding issue
-grow_issue w issues = grow_same w
-
-grow_phase : (m : Marked) (phase : Phase) → Grow m.world (phase_of m phase).world
-grow_phase m phase =
-    let begun : Marked = record { world = issue m.world phase.issues; marks = m.marks } in
-    grow_then m.world begun.world (phase_of m phase).world (grow_issue m.world phase.issues) (grow_rounds_of begun phase.rounds)
-
 -- ---- settles
 
 store_settled : (lengths : List ℕ) (part : Part) → store_of (part_after_settle lengths part) ≡ store_of part
@@ -166,7 +126,7 @@ journals_settled clock lengths (actor ∷ actors) =
     ap (λ s. option_to_list (option_map (λ (s : StoreState). s.journal) s) ++ journals_of (map (actor_after_settle clock lengths) actors)) (store_settled lengths actor.part)
     ∙ ap (λ js. journal_of actor.part ++ js) (journals_settled clock lengths actors)
 
-store_without : (part : Part) → store_of (part_without_question part) ≡ store_of part
+pub store_without : (part : Part) → store_of (part_without_question part) ≡ store_of part
 store_without Driver = refl
 store_without (Desk d) = refl
 store_without (Module m) = refl
@@ -184,7 +144,7 @@ journals_give_all : (g : Giving) (numbers : List ℕ) → journals_of (give_all 
 journals_give_all g [] = refl
 journals_give_all g (number ∷ numbers) = journals_give_all (give g number) numbers ∙ journals_give g number
 
-grow_settle : (moment : ℕ) (asked : List ℕ) (w : WorldState) → Grow w (settle moment asked w)
+pub grow_settle : (moment : ℕ) (asked : List ℕ) (w : WorldState) → Grow w (settle moment asked w)
 unfolding settle
 grow_settle moment asked w =
     let g = giving_of w.actors asked in
@@ -192,22 +152,21 @@ grow_settle moment asked w =
     fronts_equal (journals_of w.actors) (journals_of (actors_after_settle clock g.actors))
     (journals_settled clock (journal_lengths g.actors) g.actors ∙ journals_give_all (record { actors = w.actors; answers = [] }) asked)
 
-grow_goes_on : (unsettled over : Bool) (number : ℕ) (phase : Phase) (done : Marked) (phases : List Phase)
-    → Grow (settle_after phase done).world (rounds_from (number + 1) (settle_after phase done) phases).last.world
-    → Grow done.world (goes_on unsettled over number done (settle_after phase done) phases).last.world
-grow_goes_on true over number phase done phases others = grow_same done.world
-grow_goes_on false true number phase done phases others = grow_settle phase.moment (desks_asked phase.issues) done.world
-grow_goes_on false false number phase done phases others =
-    let next = settle_after phase done in
-    grow_then done.world next.world (rounds_from (number + 1) next phases).last.world (grow_settle phase.moment (desks_asked phase.issues) done.world) others
+grow_issue : (w : WorldState) (issues : List Output) → Grow w (issue w issues)
+unfolding issue
+grow_issue w issues = grow_same w
 
-grow_rounds_from : (number : ℕ) (m : Marked) (phases : List Phase) → Grow m.world (rounds_from number m phases).last.world
-grow_rounds_from number m [] = grow_same m.world
-grow_rounds_from number m (phase ∷ phases) =
-    let done = phase_of m phase in
-    let next = settle_after phase done in
-    grow_then m.world done.world (rounds_from number m (phase ∷ phases)).last.world (grow_phase m phase)
-    (grow_goes_on (is_over done.world || not (is_drained done.world)) (is_over next.world) number phase done phases (grow_rounds_from (number + 1) next phases))
+-- ---- a run
+
+runs_grow : (w : WorldState) → RunsKeep (Grow w)
+runs_grow w = record {
+  turns = λ v lane within f. grow_then w v (turn v lane (longest v lane)) f (grow_turn v lane (longest v lane));
+  issues = λ v issues f. grow_then w v (issue v issues) f (grow_issue v issues);
+  settles = λ moment asked v drained f. grow_then w v (settle moment asked v) f (grow_settle moment asked v);
+}
+
+pub grow_rounds_from : (number : ℕ) (m : Marked) (phases : List Phase) → Grow m.world (rounds_from number m phases).last.world
+grow_rounds_from number m phases = keep_rounds_from (Grow m.world) (runs_grow m.world) number m phases (grow_same m.world)
 
 -- ---- what settles tell
 

@@ -13,7 +13,8 @@ use Rattle.net_record.specs.Actors.{actor_at, new_actor, actor_without_question,
 use Rattle.net_record.specs.Answers.{Giving, desks_asked, give, give_all, giving_of}
 use Rattle.net_record.specs.World.{WorldState, world_of, start, is_drained, issue, settle, driver_clock, greatest_clock}
 use Rattle.net_record.specs.Budget.{is_over}
-use Rattle.net_record.specs.Rounds.{Marked, Ended, round, after_round, rounds_of, phase_of, settle_after, rounds_from, round_robin}
+use Rattle.net_record.specs.Rounds.{Marked, RoundsEnded, round, after_round, rounds_of, phase_of, settle_after, round_robin}
+use Rattle.net_record.proofs.Counted.{rounds_from}
 use Rattle.net_record.specs.Run.{begin, advance, run_from, run, schedule_of, RoundsAreARun}
 use Rattle.net_record.specs.Wired.{IsWired}
 use Rattle.net_record.proofs.Wired.{ends_of_wires}
@@ -137,7 +138,7 @@ ready_phase : (m : Marked) (phase : Phase) → IsReady m.world → IsReady (phas
 ready_phase m phase ready = ready_rounds_of (marked_with_issues m phase) phase.rounds (ready_issue m.world phase.issues ready)
 
 -- how rounds go on after those of a phase, where it isn't over before its settle or by it
-abbrev pub goes_on : Bool → Bool → ℕ → Marked → Marked → List Phase → Ended
+abbrev pub goes_on : Bool → Bool → ℕ → Marked → Marked → List Phase → RoundsEnded
 goes_on unsettled over number done next phases =
     cond unsettled (record { unsettled = Some number; last = done })
     (cond over (record { unsettled = Some number; last = next }) (rounds_from (number + 1) next phases))

@@ -8,7 +8,8 @@ use Rattle.net_laboratory.specs.declared.schedule.Turn.{Turn}
 use Rattle.net_record.specs.declared.phase.Phase.{Phase}
 use Rattle.net_record.specs.World.{WorldState, waiting, turn, range, is_empty, is_drained}
 use Rattle.net_record.specs.Budget.{is_over}
-use Rattle.net_record.specs.Rounds.{longest, turns_on, round_from, round}
+use Rattle.net_record.specs.Rounds.{longest, turns_on, round}
+use Rattle.net_record.proofs.Counted.{round_from}
 use Rattle.net_record.specs.Run.{advance, is_legal, run_from, schedule_of}
 use Rattle.net_record.specs.Wired.{IsWired}
 use Rattle.net_record.proofs.Turns.{wired_turn, turn_keeps, turn_leaves, turn_scheduled}
@@ -111,7 +112,9 @@ then_round-over w lane (count ∷ counts) later over =
 -- and where it isn't, the next turn is done
 round_from-step : (w : WorldState) (lane count : ℕ) (counts : List ℕ) → is_over w ≡ false
     → round_from w lane (suc count ∷ counts) ≡ round_from (robin w lane) lane (count ∷ counts)
-round_from-step w lane count counts within = rw within refl
+round_from-step w lane count counts within =
+    let first : turns_on w lane (suc count) ≡ turns_on (robin w lane) lane count = rw within refl in
+    ap (λ v. round_from v (lane + 1) counts) first
 
 then_round-step : (w : WorldState) (lane count : ℕ) (counts : List ℕ) (later : List Turn) → is_over w ≡ false
     → then_round w lane (suc count ∷ counts) later ≡ turn_on w lane ∷ then_round (robin w lane) lane (count ∷ counts) later

@@ -16,3 +16,6 @@ pub mod Wired
 pub mod Ends
 pub mod Fronts
 pub mod Ports
+pub mod Answered
+pub mod Syncs
+pub mod Tells

@@ -1,5 +1,5 @@
 -- What the driver sends: one row a command, and the phases of a scenario.
-use Rattle.std.specs.Prelude.{ℕ, List, [], ◌∷◌, ◌++◌, map, Bool, true, false, if◌then◌else◌}
+use Rattle.std.specs.Prelude.{ℕ, List, [], ◌∷◌, ◌++◌, map, unwrap_or, Bool, true, false, if◌then◌else◌}
 use Rattle.std.specs.List.{flat_map, enumerate_from}
 use Rattle.or_base.specs.declared.item.Item.{Item}
 use Rattle.or_base.specs.declared.item.Item.TheVariants as item
@@ -9,6 +9,7 @@ use Rattle.net_laboratory.specs.declared.declared.LinkDecl.{LinkDecl}
 use Rattle.net_laboratory.specs.declared.command.Command.{Command}
 use Rattle.net_laboratory.specs.declared.command.Command.TheVariants.{Settle, Tick, Set, Own, Disown, Sync, Restart, Up, Down, Script, Get, Drain, LinkDrain, Metric, Advertise, Withdraw, Aggregate, Ask}
 use Rattle.net_laboratory.specs.Scenario.{Laboratory}
+use Rattle.net_laboratory.specs.Amounts.{claims_of}
 use Rattle.net_record.specs.declared.role.NodeModule.{NodeModule}
 use Rattle.net_record.specs.declared.role.NodeModule.TheVariants.{Store, Desk}
 use Rattle.net_record.specs.declared.role.Role.{Role}
@@ -66,10 +67,9 @@ issues_of all (Withdraw node prefix) = []
 issues_of all (Aggregate node prefix least) = []
 issues_of all (Ask node prefix) = []
 
--- the moment after a command; a tick alone changes it
+-- the moment after a command: the one that it brings, or the one before it
 abbrev pub moment_after : ℕ → Command → ℕ
-moment_after moment (Tick to) = to
-moment_after moment _ = moment
+moment_after moment command = unwrap_or (claims_of command).moment moment
 
 -- The phases of commands, where the last tick so far was to this moment and the driver has these items for the first
 -- phase already. A phase is the commands up to and with a settle.

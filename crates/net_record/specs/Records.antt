@@ -6,7 +6,7 @@ use Rattle.net_record.specs.declared.actor.ActorState.{ActorState}
 use Rattle.net_record.specs.declared.record.Record.{Record}
 use Rattle.net_record.specs.Actors.{store_of}
 use Rattle.net_record.specs.World.{WorldState}
-use Rattle.net_record.specs.Rounds.{Ended}
+use Rattle.net_record.specs.Rounds.{RoundsEnded}
 
 -- the journal of an actor that is a store
 abbrev pub journal_of : Part → List (List JournalEntry)
@@ -21,12 +21,12 @@ abbrev pub record_of : WorldState → List ℕ → Record
 record_of w marks = record { turns = w.turns; journals = journals_of w.actors; settles = w.settles; marks = marks }
 
 -- the record is that of a run by rounds that settled every phase
-pub record IsSettled (ended : Ended) (done : Record) : Type 0 where
+pub record IsSettled (ended : RoundsEnded) (done : Record) : Type 0 where
   pub settled : ended.unsettled ≡ None
   pub all : done ≡ record_of ended.last.world ended.last.marks
 
 -- the record is that of a run by rounds as far as it came, the phase with this number being unsettled
-pub record IsUnsettled (ended : Ended) (phase : ℕ) (done : Record) : Type 0 where
+pub record IsUnsettled (ended : RoundsEnded) (phase : ℕ) (done : Record) : Type 0 where
   pub unsettled : ended.unsettled ≡ Some phase
   pub all : done ≡ record_of ended.last.world ended.last.marks
 

@@ -78,7 +78,7 @@ impl Desk {
     ghost use Rattle.net_record.specs.Desk.{new_desk, with_question, desk_after, desk_finds, desk_may_find, desk_shown, desk_after_settle, question_answer, without_question};
 
     /// The desk of a node as it starts, where the node's store is the actor with this number. It takes no memory.
-    pub fn new(alloc: Global, node: Name, store: u32) -> Desk
+    pub(crate) fn new(alloc: Global, node: Name, store: u32) -> Desk
         ensures { result ≡ new_desk node store }
     {
         Desk {
@@ -91,7 +91,7 @@ impl Desk {
     }
 
     /// The actor number of its node's store. It takes no memory.
-    pub fn store(&self) -> u32
+    pub(crate) fn store(&self) -> u32
         ensures { result ≡ self.now.store }
     {
         self.store
@@ -99,7 +99,7 @@ impl Desk {
 
     /// A journal of this length is shown to it, before it takes the item, so that a question finds it. It takes no memory.
     #[tactic(auto, unfolding(crate::specs::Desk::desk_shown))]
-    pub fn show(&mut self, item: &Item, at: u64)
+    pub(crate) fn show(&mut self, item: &Item, at: u64)
         requires { at < 2 ^ 64 - 1 }
         ensures { self.new ≡ desk_shown self.old item.now at }
     {
@@ -123,7 +123,7 @@ impl Desk {
 
     /// One turn, which answers the length that it found. An item that asks nothing changes nothing, and finds 0.
     #[tactic(auto, unfolding(crate::specs::Desk::desk_after, crate::specs::Desk::desk_finds, crate::specs::Desk::desk_may_find))]
-    pub fn take(&mut self, item: Item) -> Result<u64, NoMemory>
+    pub(crate) fn take(&mut self, item: Item) -> Result<u64, NoMemory>
         ensures found { IfOk result (λ at. at ≡ desk_finds self.old item) }
         ensures may { IfOk result (λ at. IsTrue (desk_may_find self.old item at)) }
         ensures length { IfOk result (λ at. at < 2 ^ 64 - 1) }
@@ -140,7 +140,7 @@ impl Desk {
     }
 
     /// A settle lets it see a journal of this length. It takes no memory.
-    pub fn settle(&mut self, entries: u64)
+    pub(crate) fn settle(&mut self, entries: u64)
         requires { entries < 2 ^ 64 - 1 }
         ensures { self.new ≡ desk_after_settle entries self.old }
     {
@@ -150,7 +150,7 @@ impl Desk {
 
     /// The answer to its oldest question, if there is one, by the journal of its node's store.
     #[tactic(auto, unfolding(crate::specs::Desk::question_answer))]
-    pub fn answer(&self, journal: &[JournalEntry]) -> Result<Option<AnswerDone>, NoMemory>
+    pub(crate) fn answer(&self, journal: &[JournalEntry]) -> Result<Option<AnswerDone>, NoMemory>
         ensures { IfOk result (λ answer. answer ≡ option_map (question_answer self.now journal.now) (slice_get self.now.questions 0)) }
     {
         let Some(question) = self.questions.front() else {
@@ -164,7 +164,7 @@ impl Desk {
     }
 
     /// Forgets its oldest question, if there is one. It takes no memory.
-    pub fn forget(&mut self)
+    pub(crate) fn forget(&mut self)
         ensures { self.new ≡ without_question self.old }
     {
         let _question = self.questions.pop_front();

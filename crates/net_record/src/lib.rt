@@ -7,16 +7,19 @@
 //! moment when no item waits. Round robin is the schedule that rounds give (`specs/Rounds.antt`), and
 //! `rounds_are_a_run` promises that it is a run like any other.
 //!
-//! All that depends on which modules there are stands here, and nothing above this layer names a single module:
-//! `part` (the module of an actor), `actor`, `desk` (answers questions), `lookup` and `finding` (what a desk finds in the
-//! store of its node), `role` and `numbering` (what the actors are), `wiring`, `phasing`, `answers` (which desks a phase
-//! asks), `record` (what was done) and `stores` (what a record tells of the stores). `weight` and `budget` say how much a
-//! run may do.
+//! All that depends on which modules there are stands here, and nothing above this layer names a single module: `role` and
+//! `numbering` (what the actors are), `kinds` (the modules), `part` (what an actor is: the driver, a desk or a module),
+//! `actor`, `desk` (answers questions), `wire`, `wiring` and `ports` (the lanes, and which of them a sender's port names),
+//! `phase` and `phasing` (what each command sends), `answers` and `questions` (which desks a phase asks, and for what),
+//! `record` (what was done) and `stores` (what a record tells of the stores). `stamps`, `weight` and `budget` say when each
+//! entry was made and how much a run may do.
 #![tactic(auto)]
 
 ghost use Rattle.net_record.specs.Run.{RoundsAreARun};
 ghost use Rattle.net_record.specs.Ends.{SettledRoundsEndDrained};
 ghost use Rattle.net_record.specs.Fronts.{SettlesTellStores};
+ghost use Rattle.net_record.specs.Answered.{AnswersAreHeld, NoneBehind};
+ghost use Rattle.net_record.specs.Syncs.{SyncsDiffer};
 
 mod actor;
 mod answers;
@@ -42,7 +45,7 @@ pub use answers::desks_asked;
 pub use budget::MOST_WEIGHT;
 pub use desk::{Desk, Question};
 pub use kinds::AnyModule;
-pub use numbering::{MOST_ACTORS, MOST_MODULES, link_number, module_number, roles};
+pub use numbering::{link_number, module_number, roles};
 pub use part::Part;
 pub use phase::Phase;
 pub use phasing::phases;
@@ -74,4 +77,21 @@ pub fn settled_rounds_end_drained()
 /// of the journal that the record has.
 pub fn settles_tell_stores()
     ensures { SettlesTellStores }
+{}
+
+/// In a run by round robin each answer is what the first entries of its node's journal hold in the record, no fewer of
+/// them than the settle before told of, and no more than its own settle tells of.
+pub fn answers_are_held()
+    ensures { AnswersAreHeld }
+{}
+
+/// In a run by round robin no answer is that the desk was behind what it had seen.
+pub fn none_is_behind()
+    ensures { NoneBehind }
+{}
+
+/// In a run by round robin no two full syncs that a node's store started, and that settles tell of as finished, have the same
+/// number.
+pub fn syncs_differ()
+    ensures { SyncsDiffer }
 {}

@@ -6,15 +6,9 @@ ghost use Rattle.net_record.specs.declared.role.NodeModule.TheVariants.{Store};
 ghost use Rattle.net_record.specs.Small.{HasSmallNumber};
 
 use crate::role::{NodeModule, Role};
-use net_laboratory::{Kind, LinkDecl, MOST_LINKS, MOST_NODES, NodeDecl, Scenario};
+use net_laboratory::{Kind, LinkDecl, NodeDecl, Scenario};
 use or_base::{Name, NoMemory};
 use std::alloc::Global;
-
-/// A node has at most so many modules.
-pub const MOST_MODULES: usize = 7;
-
-/// A laboratory has at most so many actors: the driver, the modules of all nodes, and the links.
-pub const MOST_ACTORS: usize = 1 + MOST_MODULES * MOST_NODES + MOST_LINKS;
 
 /// The modules of a node of each kind, in the order of their numbers; of a full node those that are built.
 fn modules_of(alloc: Global, kind: Kind) -> Result<Vec<NodeModule>, NoMemory>

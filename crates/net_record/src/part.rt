@@ -38,7 +38,7 @@ impl Part {
     ghost use Rattle.net_record.specs.Small.{HasSmallNumber};
 
     /// What an actor is as it starts.
-    pub fn new(alloc: Global, role: &Role) -> Result<Part, NoMemory>
+    pub(crate) fn new(alloc: Global, role: &Role) -> Result<Part, NoMemory>
         requires { HasSmallNumber role.now }
         ensures { IfOk result (λ part. part ≡ new_part role.now) }
     {
@@ -67,7 +67,7 @@ impl Part {
     }
 
     /// The desk that it is, if it is one. It takes no memory.
-    pub fn desk(&self) -> Option<&Desk>
+    pub(crate) fn desk(&self) -> Option<&Desk>
         ensures { option_map (λ d. d.now) result ≡ desk_of self.now }
     {
         match self {
@@ -99,7 +99,7 @@ impl Part {
 
     /// A journal of this length is shown to it, before it takes the item, so that a question to a desk finds it. It takes no
     /// memory.
-    pub fn show(&mut self, item: &Item, at: u64)
+    pub(crate) fn show(&mut self, item: &Item, at: u64)
         requires { at < 2 ^ 64 - 1 }
         ensures { self.new ≡ part_shown self.old item.now at }
     {
@@ -111,7 +111,13 @@ impl Part {
 
     /// One turn, in which a desk finds a journal of the length `at`.
     #[tactic(auto, using(crate::proofs::Parts::state_shown, crate::proofs::Parts::sent_shown))]
-    pub fn take(&mut self, lane: u32, item: Item, at: u64, out: &mut Outbox) -> Result<(), NoMemory>
+    pub(crate) fn take(
+        &mut self,
+        lane: u32,
+        item: Item,
+        at: u64,
+        out: &mut Outbox,
+    ) -> Result<(), NoMemory>
         requires item { IsTrue (has_small_link item) }
         requires at { at < 2 ^ 64 - 1 }
         ensures state { OnOk result (self.new ≡ (part_step self.old lane item at).0) }
@@ -124,7 +130,7 @@ impl Part {
     }
 
     /// A settle, at which the journals of the actors have these lengths. It takes no memory.
-    pub fn settle(&mut self, lengths: &[u64])
+    pub(crate) fn settle(&mut self, lengths: &[u64])
         requires { (n : _) → slice_index_or lengths.now n 0 < 2 ^ 64 - 1 }
         ensures { self.new ≡ part_after_settle lengths.now self.old }
     {
@@ -141,7 +147,7 @@ impl Part {
     }
 
     /// Forgets its oldest question, where it is a desk that has one. It takes no memory.
-    pub fn forget(&mut self)
+    pub(crate) fn forget(&mut self)
         ensures { self.new ≡ part_without_question self.old }
     {
         match self {

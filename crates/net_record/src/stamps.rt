@@ -1,4 +1,4 @@
-ghost use Rattle.std.specs.Prelude.{◌≡◌, [], ◌++◌, replicate, OnOk, OnErr};
+ghost use Rattle.std.specs.Prelude.{◌≡◌, ◌<◌, ◌^◌, [], ◌++◌, replicate, OnOk, OnErr};
 
 use or_base::NoMemory;
 use std::alloc::Global;
@@ -22,7 +22,7 @@ impl Stamps {
     ghost use Rattle.net_record.specs.Actors.{made_at};
 
     /// Those of no entries. It takes no memory.
-    pub fn new(alloc: Global) -> Stamps
+    pub(crate) fn new(alloc: Global) -> Stamps
         ensures { result ≡ [] }
     {
         Stamps {
@@ -31,19 +31,17 @@ impl Stamps {
     }
 
     /// So many entries more, of one turn. Out of memory, the stamps stay as they were.
-    pub fn add(&mut self, count: usize, stamp: u64) -> Result<(), NoMemory>
+    pub(crate) fn add(&mut self, count: usize, stamp: u64) -> Result<(), NoMemory>
+        requires { count < 2 ^ 63 }
         ensures ok { OnOk result (self.new ≡ self.old ++ replicate count stamp) }
         ensures err { OnErr result (self.new ≡ self.old) }
     {
-        let Some(len) = self.stamps.len().checked_add(count) else {
-            return Err(NoMemory);
-        };
-        self.stamps.resize(len, stamp)?;
+        self.stamps.resize(self.stamps.len() + count, stamp)?;
         Ok(())
     }
 
     /// The stamp of the turn that made the journal so long; 0 where it is empty. It takes no memory.
-    pub fn made_at(&self, at: u64) -> u64
+    pub(crate) fn made_at(&self, at: u64) -> u64
         ensures { result ≡ made_at self.now at }
     {
         if at == 0 {

@@ -22,7 +22,7 @@ use Rattle.net_laboratory.specs.Scenario.{Laboratory}
 use Rattle.net_record.specs.declared.record.NodeMark.{NodeMark}
 use Rattle.net_record.specs.declared.record.Record.{Record}
 use Rattle.net_record.specs.declared.record.SettleDone.{SettleDone}
-use Rattle.net_report.specs.Report.{settle_line, store_line, hex_text, left_text, key_line, sync_line, store_text, route_line, routes_line, fib_line, node_routes_text, answer_line, shown_text, turn_line, settle_text, report}
+use Rattle.net_report.specs.Report.{settle_line, store_line, hex_text, left_text, key_line, sync_line, store_text, route_line, routes_line, fib_line, node_routes_text, answer_line, shown_text, turn_line, settle_text, report, phase_text, value_text}
 
 -- no bytes
 pub hex_text-none : hex_text [] ≡ codes "-"
@@ -97,17 +97,17 @@ routes = codes "routes a\nroute 10.4.0.0/16 2 if-b,if-c\nfib clean 1\n"
 
 -- all that a settle can show
 pub report-both : report done (laboratory kind.Full show.Both) false ≡ answers ++ store ++ routes ++ codes "end\n"
-unfolding report settle_text settle_line store_text store_line key_line sync_line routes_line route_line fib_line node_routes_text answer_line shown_text prefix_text v4_text encode_with digits
+unfolding report phase_text settle_text settle_line store_text store_line key_line sync_line routes_line route_line fib_line node_routes_text answer_line shown_text prefix_text v4_text encode_with digits value_text
 report-both = refl
 
 -- stores have no routes to show
 pub report-stores : report done (laboratory kind.Stores show.Both) false ≡ answers ++ store ++ codes "end\n"
-unfolding report settle_text settle_line store_text store_line key_line sync_line answer_line shown_text prefix_text v4_text encode_with digits
+unfolding report phase_text settle_text settle_line store_text store_line key_line sync_line answer_line shown_text prefix_text v4_text encode_with digits value_text
 report-stores = refl
 
 -- routes alone
 pub report-routes : report done (laboratory kind.Full show.Routes) false ≡ answers ++ routes ++ codes "end\n"
-unfolding report settle_text settle_line routes_line route_line fib_line node_routes_text answer_line shown_text prefix_text v4_text encode_with digits
+unfolding report phase_text settle_text settle_line routes_line route_line fib_line node_routes_text answer_line shown_text prefix_text v4_text encode_with digits value_text
 report-routes = refl
 
 -- the agent lacks some of 12 routes
@@ -117,7 +117,7 @@ fib_line-dirty = refl
 
 -- a desk that found fewer entries than it had seen
 pub answer_line-behind : answer_line (record { node = codes "b"; asked = asked.Key (codes "x"); told = told.Behind 3 }) ≡ codes "get b x behind 3\n"
-unfolding answer_line digits
+unfolding answer_line digits value_text
 answer_line-behind = refl
 
 -- ---- two phases with a turn each, and nothing shown
@@ -148,9 +148,9 @@ two_phases = record {
 -- the turns of a phase stand before its settle
 pub report-trace : report phases two_phases true
     ≡ codes "{\"do\":\"turn\",\"lane\":0,\"at\":0}\nsettle 1 moment 0\n{\"do\":\"turn\",\"lane\":2,\"at\":1}\nsettle 2 moment 30\nend\n"
-unfolding report settle_text settle_line shown_text turn_line digits
+unfolding report phase_text settle_text settle_line shown_text turn_line digits
 report-trace = refl
 
 pub report-no_trace : report phases two_phases false ≡ codes "settle 1 moment 0\nsettle 2 moment 30\nend\n"
-unfolding report settle_text settle_line shown_text digits
+unfolding report phase_text settle_text settle_line shown_text digits
 report-no_trace = refl

@@ -1,6 +1,6 @@
 -- The text of what was done in a laboratory.
-use Rattle.std.specs.Prelude.{ℕ, ◌+◌, ◌-◌, List, [], ◌∷◌, ◌++◌, Option, Some, None, codes, take, drop, Bool, true, false, if◌then◌else◌}
-use Rattle.std.specs.List.{flat_map}
+use Rattle.std.specs.Prelude.{ℕ, ◌+◌, ◌-◌, List, [], ◌∷◌, ◌++◌, map, Option, Some, None, codes, take, drop, Bool, true, false, if◌then◌else◌}
+use Rattle.std.specs.List.{flat_map, filter_map, zip, enumerate_from}
 use Rattle.std.specs.Fmt.{decimal}
 use Rattle.hex.specs.Hex.{encode_lower}
 use Rattle.or_base.specs.declared.asked.Asked.{Asked}
@@ -51,11 +51,13 @@ abbrev pub left_text : Option ℕ → ℕ → ℕ → List ℕ
 left_text None merged_at moment = codes "-"
 left_text (Some ttl) merged_at moment = decimal (merged_at + ttl - moment)
 
--- `key <key> <version> <originator> <hex> <ttl version> <left>`
+-- `<version> <originator> <hex> <ttl version>`
+unfoldable pub value_text : KvValue → List ℕ
+value_text v = decimal v.version ++ codes " " ++ v.originator ++ codes " " ++ hex_text v.value ++ codes " " ++ decimal v.ttl_version
+
+-- `key <key> <value> <left>`
 unfoldable pub key_line : List ℕ → KvValue → ℕ → ℕ → List ℕ
-key_line key v merged_at moment =
-    line (codes "key " ++ key ++ codes " " ++ decimal v.version ++ codes " " ++ v.originator ++ codes " " ++ hex_text v.value
-    ++ codes " " ++ decimal v.ttl_version ++ codes " " ++ left_text v.ttl merged_at moment)
+key_line key v merged_at moment = line (codes "key " ++ key ++ codes " " ++ value_text v ++ codes " " ++ left_text v.ttl merged_at moment)
 
 -- the line of a key, where something is held under it
 abbrev pub held_line : List ℕ → Option (KvValue × ℕ) → ℕ → List ℕ
@@ -134,10 +136,9 @@ abbrev pub question_text : List ℕ → Asked → List ℕ
 question_text node (asked.Key key) = codes "get " ++ node ++ codes " " ++ key
 question_text node (asked.Prefix prefix) = codes "ask " ++ node ++ codes " " ++ text_of_prefix prefix
 
--- `value <version> <originator> <hex> <ttl version>`, `route <cost> <hops>`, `none` or `behind <at>`
+-- `value <value>`, `route <cost> <hops>`, `none` or `behind <at>`
 abbrev pub told_text : Told → List ℕ
-told_text (told.Value v) =
-    codes " value " ++ decimal v.version ++ codes " " ++ v.originator ++ codes " " ++ hex_text v.value ++ codes " " ++ decimal v.ttl_version
+told_text (told.Value v) = codes " value " ++ value_text v
 told_text (told.Route r) = codes " route " ++ cost_and_hops r
 told_text told.Nothing = codes " none"
 told_text (told.Behind at) = codes " behind " ++ decimal at
@@ -182,19 +183,40 @@ unfoldable pub settle_text : ℕ → Kind → Show → List NodeDecl → List (L
 settle_text k kind s nodes journals settle =
     settle_line k settle.moment ++ flat_map answer_line settle.answers ++ shown_text kind s nodes journals settle
 
--- The text of settles, of which the first is that of the first settle command and has the number k. So many turns were
--- done before its phase, and these are the turns from there on. With a trace the turns of each phase stand before its
--- settle.
-abbrev pub settles_text : ℕ → Bool → ℕ → List TurnDone → List Command → List SettleDone → Kind → List NodeDecl → List (List JournalEntry) → List ℕ
-settles_text k trace before turns [] settles kind nodes journals = []
-settles_text k trace before turns (Settle rounds s ∷ commands) [] kind nodes journals = []
-settles_text k trace before turns (Settle rounds s ∷ commands) (settle ∷ settles) kind nodes journals =
-    trace_text trace (take (settle.turns - before) turns) ++ settle_text k kind s nodes journals settle
-    ++ settles_text (k + 1) trace settle.turns (drop (settle.turns - before) turns) commands settles kind nodes journals
-settles_text k trace before turns (other ∷ commands) settles kind nodes journals =
-    settles_text k trace before turns commands settles kind nodes journals
+-- what a command shows of its settle, if it is one
+abbrev pub settle_show : Command → Option Show
+settle_show (Settle rounds s) = Some s
+settle_show _ = None
+
+-- A settle that was done, with what it shows and how many turns were done before its phase.
+pub record Shown : Type 0 where
+  pub show : Show
+  pub before : ℕ
+  pub settle : SettleDone
+
+abbrev pub shown_of : Show × (ℕ × SettleDone) → Shown
+shown_of parts = record { show = parts.0; before = parts.1.0; settle = parts.1.1 }
+
+-- Settles that were done, each with what it shows and with the turns done before its phase: so many for the first, and for each later
+-- one as many as at the settle before.
+abbrev pub shown_after : ℕ → List Show → List SettleDone → List Shown
+shown_after before shows settles = map shown_of (zip shows (zip (before ∷ map (λ settle. settle.turns) settles) settles))
+
+-- the turns of the phase of a settle
+abbrev pub turns_of_phase : List TurnDone → ℕ → ℕ → List TurnDone
+turns_of_phase turns before at_settle = drop before (take at_settle turns)
+
+-- a settle with its number, behind the turns of its phase where a trace is wanted
+unfoldable pub phase_text : Record → Laboratory → Bool → ℕ × Shown → List ℕ
+phase_text done lab trace numbered =
+    let shown = numbered.1 in
+    trace_text trace (turns_of_phase done.turns shown.before shown.settle.turns)
+    ++ settle_text numbered.0 lab.kind shown.show lab.nodes done.journals shown.settle
+
+-- the settles, numbered from 1, in the order of the commands
+abbrev pub settles_text : Record → Laboratory → Bool → List ℕ
+settles_text done lab trace = flat_map (phase_text done lab trace) (enumerate_from 1 (shown_after 0 (filter_map settle_show lab.commands) done.settles))
 
 -- the report of what was done in a laboratory, with a trace or without
 unfoldable pub report : Record → Laboratory → Bool → List ℕ
-report done lab trace =
-    settles_text 1 trace 0 done.turns lab.commands done.settles lab.kind lab.nodes done.journals ++ line (codes "end")
+report done lab trace = settles_text done lab trace ++ line (codes "end")

@@ -7,8 +7,8 @@
 //! only stores have no routes to show. Numbers are decimal; a value's bytes are lower case hex; prefixes are as
 //! or_prefix prints them.
 //!
-//! The files: `lines` (the single lines of settles, stores and turns), `routes` (those of routes), `answers` (those of
-//! answers), `text` (what they make up). Each function appends to one text, so the report costs what it writes and,
+//! The files: `written` (what is a line), `lines` (the single lines of settles, stores and turns), `routes` (those of
+//! routes), `answers` (those of answers), `text` (what they make up). Each function appends to one text, so the report costs what it writes and,
 //! for each key, a scan of the node's journal.
 #![tactic(auto)]
 
@@ -19,6 +19,7 @@ mod answers;
 mod lines;
 mod routes;
 mod text;
+mod written;
 
 use crate::text::settles_text;
 use net_laboratory::Scenario;
@@ -37,16 +38,7 @@ pub fn report(
     ensures { IfOk result (λ text. text.items ≡ report done.now scenario.now trace) }
 {
     let mut out = String::new(alloc);
-    settles_text(
-        &mut out,
-        trace,
-        done.turns.as_slice(),
-        scenario.commands.as_slice(),
-        done.settles.as_slice(),
-        scenario.kind,
-        scenario.nodes.as_slice(),
-        done.journals.as_slice(),
-    )?;
+    settles_text(&mut out, done, scenario, trace)?;
     out.push_str("end\n")?;
     Ok(out.into_bytes())
 }

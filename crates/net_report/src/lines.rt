@@ -2,8 +2,9 @@
 
 ghost use Rattle.std.specs.Prelude.{◌≡◌, ◌++◌, OnOk, string_bytes};
 ghost use Rattle.std.specs.Fmt.{decimal};
-ghost use Rattle.net_report.specs.Report.{settle_line, store_line, hex_text, left_text, key_line, sync_line, turn_line};
+ghost use Rattle.net_report.specs.Report.{settle_line, store_line, hex_text, left_text, value_text, key_line, sync_line, turn_line};
 
+use crate::written::ReportLine;
 use net_record::NodeMark;
 use or_base::{Key, KvValue, Name, NoMemory, SyncDone, TurnDone};
 
@@ -62,7 +63,21 @@ fn left_text(
     Ok(())
 }
 
-/// `key <key> <version> <originator> <hex> <ttl version> <left>`, as it is at the moment.
+/// `<version> <originator> <hex> <ttl version>`
+#[tactic(auto, unfolding(crate::specs::Report::value_text))]
+pub(crate) fn value_text(out: &mut String, value: &KvValue) -> Result<(), NoMemory>
+    ensures { OnOk result (string_bytes out.new ≡ string_bytes out.old ++ value_text value.now) }
+{
+    let version = value.version;
+    let originator = value.originator.as_str();
+    write!(out, "{version} {originator} ")?;
+    hex_text(out, value.value.as_slice())?;
+    let ttl_version = value.ttl_version;
+    write!(out, " {ttl_version}")?;
+    Ok(())
+}
+
+/// `key <key> <value> <left>`, as it is at the moment.
 #[tactic(auto, unfolding(crate::specs::Report::key_line))]
 pub(crate) fn key_line(
     out: &mut String,
@@ -74,30 +89,29 @@ pub(crate) fn key_line(
     ensures { OnOk result (string_bytes out.new ≡ string_bytes out.old ++ key_line key.now value.now merged_at moment) }
 {
     let key = key.as_str();
-    let version = value.version;
-    let originator = value.originator.as_str();
-    write!(out, "key {key} {version} {originator} ")?;
-    hex_text(out, value.value.as_slice())?;
-    let ttl_version = value.ttl_version;
-    write!(out, " {ttl_version} ")?;
+    write!(out, "key {key} ")?;
+    value_text(out, value)?;
+    out.push_str(" ")?;
     left_text(out, value.ttl, merged_at, moment)?;
     out.push_str("\n")?;
     Ok(())
 }
 
 /// `sync <link> <session> <a0> <b0> <withheld>`: a full sync that was finished.
-#[tactic(auto, unfolding(crate::specs::Report::sync_line))]
-pub(crate) fn sync_line(out: &mut String, sync: &SyncDone) -> Result<(), NoMemory>
-    ensures { OnOk result (string_bytes out.new ≡ string_bytes out.old ++ sync_line sync.now) }
-{
-    let link = sync.link;
-    let session = sync.session;
-    write!(out, "sync {link} {session} ")?;
-    let a0 = sync.a0;
-    let b0 = sync.b0;
-    let withheld = sync.withheld;
-    write!(out, "{a0} {b0} {withheld}\n")?;
-    Ok(())
+impl ReportLine for SyncDone {
+    ghost line = { sync_line };
+
+    #[tactic(auto, unfolding(crate::specs::Report::sync_line))]
+    fn write_line(&self, out: &mut String) -> Result<(), NoMemory> {
+        let link = self.link;
+        let session = self.session;
+        write!(out, "sync {link} {session} ")?;
+        let a0 = self.a0;
+        let b0 = self.b0;
+        let withheld = self.withheld;
+        write!(out, "{a0} {b0} {withheld}\n")?;
+        Ok(())
+    }
 }
 
 /// A text and then a number.
@@ -110,12 +124,13 @@ fn text_and_number(out: &mut String, text: &str, number: u64) -> Result<(), NoMe
 }
 
 /// `{"do":"turn","lane":<lane>,"at":<at>}`
-#[tactic(auto, unfolding(crate::specs::Report::turn_line))]
-pub(crate) fn turn_line(out: &mut String, turn: &TurnDone) -> Result<(), NoMemory>
-    ensures { OnOk result (string_bytes out.new ≡ string_bytes out.old ++ turn_line turn.now) }
-{
-    text_and_number(out, "{\"do\":\"turn\",\"lane\":", u64::from(turn.lane))?;
-    text_and_number(out, ",\"at\":", turn.at)?;
-    out.push_str("}\n")?;
-    Ok(())
+impl ReportLine for TurnDone {
+    ghost line = { turn_line };
+
+    fn write_line(&self, out: &mut String) -> Result<(), NoMemory> {
+        text_and_number(out, "{\"do\":\"turn\",\"lane\":", u64::from(self.lane))?;
+        text_and_number(out, ",\"at\":", self.at)?;
+        out.push_str("}\n")?;
+        Ok(())
+    }
 }

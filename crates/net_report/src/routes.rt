@@ -3,6 +3,7 @@
 ghost use Rattle.std.specs.Prelude.{◌≡◌, ◌++◌, OnOk, string_bytes};
 ghost use Rattle.net_report.specs.Report.{cost_and_hops, fib_line, fib_word, with_commas, text_of_prefix, route_line, routes_line};
 
+use crate::written::ReportLine;
 use net_record::NodeMark;
 use or_base::{Name, NoMemory, Prefix, Route};
 use or_prefix::prefix_text;
@@ -47,16 +48,18 @@ pub(crate) fn cost_and_hops(out: &mut String, route: &Route) -> Result<(), NoMem
 }
 
 /// `route <prefix> <cost> <hops>`
-#[tactic(auto, unfolding(crate::specs::Report::route_line))]
-pub(crate) fn route_line(out: &mut String, route: &Route) -> Result<(), NoMemory>
-    ensures { OnOk result (string_bytes out.new ≡ string_bytes out.old ++ route_line route.now) }
-{
-    out.push_str("route ")?;
-    text_of_prefix(out, &route.prefix)?;
-    out.push_str(" ")?;
-    cost_and_hops(out, route)?;
-    out.push_str("\n")?;
-    Ok(())
+impl ReportLine for Route {
+    ghost line = { route_line };
+
+    #[tactic(auto, unfolding(crate::specs::Report::route_line))]
+    fn write_line(&self, out: &mut String) -> Result<(), NoMemory> {
+        out.push_str("route ")?;
+        text_of_prefix(out, &self.prefix)?;
+        out.push_str(" ")?;
+        cost_and_hops(out, self)?;
+        out.push_str("\n")?;
+        Ok(())
+    }
 }
 
 /// `routes <node>`

@@ -1,15 +1,14 @@
 //! What the lines make up: the stores and the routes of the nodes at a settle, and the settles of a run.
 
-ghost use Rattle.std.specs.Prelude.{◌≡◌, ◌++◌, ◌-◌, OnOk, string_bytes, take, drop};
-ghost use Rattle.std.specs.List.{flat_map};
-ghost use Rattle.net_report.specs.Report.{answer_line, held_lines, node_routes_text, route_line, routes_text, settle_text, settles_text, shown_text, shows_routes, shows_stores, store_text, stores_text, sync_line, trace_text};
+ghost use Rattle.std.specs.Prelude.{◌≡◌, ◌++◌, OnOk, string_bytes};
+ghost use Rattle.net_report.specs.Report.{held_lines, node_routes_text, phase_text, routes_text, settle_text, settles_text, shown_text, shows_routes, shows_stores, store_text, stores_text, trace_text, turns_of_phase};
 
-use crate::answers::answer_line;
-use crate::lines::{key_line, settle_line, store_line, sync_line, turn_line};
-use crate::routes::{fib_line, route_line, routes_line};
-use net_laboratory::{Command, Kind, NodeDecl, Show};
-use net_record::{AnswerDone, NodeMark, SettleDone};
-use or_base::{JournalEntry, Name, NoMemory, Route, Seq, SyncDone, TurnDone, held_keys, holds};
+use crate::lines::{key_line, settle_line, store_line};
+use crate::routes::{fib_line, routes_line};
+use crate::written::write_lines;
+use net_laboratory::{Command, Kind, NodeDecl, Scenario, Show};
+use net_record::{NodeMark, Record, SettleDone};
+use or_base::{JournalEntry, Name, NoMemory, Seq, TurnDone, held_keys, holds};
 
 /// A line for each key that the journal holds, in byte order.
 fn held_lines(out: &mut String, journal: &[JournalEntry], moment: u64) -> Result<(), NoMemory>
@@ -19,16 +18,6 @@ fn held_lines(out: &mut String, journal: &[JournalEntry], moment: u64) -> Result
         if let Some(held) = holds(journal, &key) {
             key_line(out, &key, held.value, held.merged_at, moment)?;
         }
-    }
-    Ok(())
-}
-
-/// A line for each full sync that was finished, in order.
-fn sync_lines(out: &mut String, syncs: &[SyncDone]) -> Result<(), NoMemory>
-    ensures { OnOk result (string_bytes out.new ≡ string_bytes out.old ++ flat_map sync_line syncs.now) }
-{
-    for sync in syncs {
-        sync_line(out, sync)?;
     }
     Ok(())
 }
@@ -48,7 +37,7 @@ fn store_text(
     store_line(out, node, mark)?;
     let count = mark.entries.min(journal.len() as u64) as usize;
     held_lines(out, &journal[..count], moment)?;
-    sync_lines(out, mark.syncs.as_slice())?;
+    write_lines(out, mark.syncs.as_slice())?;
     Ok(())
 }
 
@@ -68,23 +57,13 @@ fn stores_text(
     Ok(())
 }
 
-/// A line for each route, in order.
-fn route_lines(out: &mut String, routes: &[Route]) -> Result<(), NoMemory>
-    ensures { OnOk result (string_bytes out.new ≡ string_bytes out.old ++ flat_map route_line routes.now) }
-{
-    for route in routes {
-        route_line(out, route)?;
-    }
-    Ok(())
-}
-
 /// A node's routes at a settle, and how its forwarding agent stands.
 #[tactic(auto, unfolding(crate::specs::Report::node_routes_text))]
 fn node_routes_text(out: &mut String, node: &Name, mark: &NodeMark) -> Result<(), NoMemory>
     ensures { OnOk result (string_bytes out.new ≡ string_bytes out.old ++ node_routes_text node.now mark.now) }
 {
     routes_line(out, node)?;
-    route_lines(out, mark.routes.as_slice())?;
+    write_lines(out, mark.routes.as_slice())?;
     fib_line(out, mark)?;
     Ok(())
 }
@@ -140,16 +119,6 @@ fn shown_text(
     Ok(())
 }
 
-/// A line for each answer, in order.
-fn answer_lines(out: &mut String, answers: &[AnswerDone]) -> Result<(), NoMemory>
-    ensures { OnOk result (string_bytes out.new ≡ string_bytes out.old ++ flat_map answer_line answers.now) }
-{
-    for answer in answers {
-        answer_line(out, answer)?;
-    }
-    Ok(())
-}
-
 /// A settle with its number: its line, the answers of its phase, and what it shows.
 #[tactic(auto, unfolding(crate::specs::Report::settle_text))]
 fn settle_text(
@@ -164,7 +133,7 @@ fn settle_text(
     ensures { OnOk result (string_bytes out.new ≡ string_bytes out.old ++ settle_text k kind show nodes.now journals.now settle.now) }
 {
     settle_line(out, k, settle.moment)?;
-    answer_lines(out, settle.answers.as_slice())?;
+    write_lines(out, settle.answers.as_slice())?;
     shown_text(out, kind, show, nodes, journals, settle)?;
     Ok(())
 }
@@ -174,51 +143,71 @@ fn trace_text(out: &mut String, trace: bool, turns: &[TurnDone]) -> Result<(), N
     ensures { OnOk result (string_bytes out.new ≡ string_bytes out.old ++ trace_text trace turns.now) }
 {
     if trace {
-        for turn in turns {
-            turn_line(out, turn)?;
-        }
+        write_lines(out, turns)?;
     }
     Ok(())
 }
 
-/// The turns of the next phase, where so many turns are done at its settle and so many were before it.
-fn phase_turns(turns: &[TurnDone], before: u64, done: u64) -> (&[TurnDone], &[TurnDone])
-    ensures phase { result.0.now ≡ take (done - before) turns.now }
-    ensures later { result.1.now ≡ drop (done - before) turns.now }
+/// The turns of a phase, of which so many were done before it and so many at its settle.
+fn turns_of_phase(turns: &[TurnDone], before: u64, at_settle: u64) -> &[TurnDone]
+    ensures { result.now ≡ turns_of_phase turns.now before at_settle }
 {
-    let count = done.saturating_sub(before).min(turns.len() as u64);
-    turns.split_at(count as usize)
+    let (phase, _later) = turns.split_at(at_settle.min(turns.len() as u64) as usize);
+    let (_before, own) = phase.split_at(before.min(phase.len() as u64) as usize);
+    own
+}
+
+/// A settle with its number, behind the turns of its phase where a trace is wanted.
+#[tactic(auto, unfolding(crate::specs::Report::phase_text))]
+fn phase_text(
+    out: &mut String,
+    done: &Record,
+    scenario: &Scenario,
+    trace: bool,
+    k: u64,
+    show: Show,
+    before: u64,
+    settle: &SettleDone,
+) -> Result<(), NoMemory>
+    ensures { OnOk result (string_bytes out.new ≡ string_bytes out.old
+        ++ phase_text done.now scenario.now trace (k, record { show = show; before = before; settle = settle.now })) }
+{
+    let turns = turns_of_phase(done.turns.as_slice(), before, settle.turns);
+    trace_text(out, trace, turns)?;
+    let nodes = scenario.nodes.as_slice();
+    settle_text(
+        out,
+        k,
+        scenario.kind,
+        show,
+        nodes,
+        done.journals.as_slice(),
+        settle,
+    )?;
+    Ok(())
 }
 
 /// The settles, in order: the first is that of the first settle command and has the number 1. With a trace the turns
 /// of each phase stand before its settle.
 pub(crate) fn settles_text(
     out: &mut String,
+    done: &Record,
+    scenario: &Scenario,
     trace: bool,
-    turns: &[TurnDone],
-    commands: &[Command],
-    settles: &[SettleDone],
-    kind: Kind,
-    nodes: &[NodeDecl],
-    journals: &[Seq<JournalEntry>],
 ) -> Result<(), NoMemory>
-    ensures { OnOk result (string_bytes out.new ≡ string_bytes out.old ++ settles_text 1 trace 0 turns.now commands.now settles.now kind nodes.now journals.now) }
+    ensures { OnOk result (string_bytes out.new ≡ string_bytes out.old ++ settles_text done.now scenario.now trace) }
 {
     let mut k = 1;
     let mut before = 0;
-    let mut turns_left = turns;
-    let mut left = settles;
-    for command in commands {
+    let mut left = done.settles.as_slice();
+    for command in scenario.commands.as_slice() {
         if let Command::Settle { show, .. } = command {
             let Some((settle, later)) = left.split_first() else {
                 return Ok(());
             };
-            let (phase, after) = phase_turns(turns_left, before, settle.turns);
-            trace_text(out, trace, phase)?;
-            settle_text(out, k, kind, *show, nodes, journals, settle)?;
+            phase_text(out, done, scenario, trace, k, *show, before, settle)?;
             k += 1;
             before = settle.turns;
-            turns_left = after;
             left = later;
         }
     }

@@ -19,7 +19,7 @@ use Rattle.net_laboratory.specs.Scenario.{is_declared, is_end, is_interface}
 use Rattle.net_scenario.specs.Seen.{Seen, has_none, admits, is_sound_so_far}
 use Rattle.net_laboratory.specs.Sound.{admits_node, admits_link, is_metric}
 use Rattle.net_scenario.specs.Conditions.{is_full_at, interface_a, interface_b, is_repeated, passes_limit, is_misplaced}
-use Rattle.net_scenario.specs.Statement.{small_or, link_of, command_of, routing_command_of, statement_of}
+use Rattle.net_scenario.specs.Statement.{small_or, link_of, statement_of}
 use Rattle.net_scenario.specs.Faults.{Line, line_of}
 use Rattle.net_scenario.proofs.AdmittedRows.{NoFault, read_line}
 use Rattle.net_scenario.proofs.AdmittedForms.{from_not, below, node_name, small_between, number_optional, number_if_any, name_needed, node_needed, numbers_optional}
@@ -131,7 +131,7 @@ module _ (seen : Seen) (turns : Bool) (line : Line) (d : Data) where
   opened_at w other (inr lab) = absurd (other lab)
 
   admitted : (w : Word) → SoundSeen seen → NoFault seen turns line w d → (is_some seen.kind ≡ true) ⊎ (w ≡ word.Lab) → admits seen (statement_of w d) ≡ true
-  unfolding statement_of command_of routing_command_of
+  unfolding statement_of
   admitted word.Lab s n o = lab n
   admitted word.Node s n o = node n (opened_at word.Node (λ e. cc) o)
   admitted word.Link s n o = link s n (opened_at word.Link (λ e. cc) o)

@@ -36,7 +36,27 @@ interface_b d = interface_by (codes "bif") (codes "a") d
 -- a tick that isn't above the last
 abbrev pub is_early : Seen → Word → Data → Bool
 is_early seen word.Tick d = not (is_later (last_tick seen.commands) (number_or (codes "to") 0 d))
-is_early seen _ d = false
+is_early seen word.Lab d = false
+is_early seen word.Node d = false
+is_early seen word.Link d = false
+is_early seen word.Settle d = false
+is_early seen word.Set d = false
+is_early seen word.Own d = false
+is_early seen word.Disown d = false
+is_early seen word.Sync d = false
+is_early seen word.Restart d = false
+is_early seen word.Up d = false
+is_early seen word.Down d = false
+is_early seen word.Script d = false
+is_early seen word.Get d = false
+is_early seen word.Drain d = false
+is_early seen word.LinkDrain d = false
+is_early seen word.Metric d = false
+is_early seen word.Advertise d = false
+is_early seen word.Withdraw d = false
+is_early seen word.Aggregate d = false
+is_early seen word.Ask d = false
+is_early seen word.Turn d = false
 
 -- a field isn't of the command, has a value that it doesn't take, or contradicts another field or an earlier line
 unfoldable pub is_bad_field : Seen → Word → Data → Bool
@@ -48,7 +68,17 @@ is_bad_field seen w d = has_other_member w d || has_unfit_field w d || is_contra
 unfoldable pub is_undeclared : Seen → Form → Data → Bool
 is_undeclared seen form.Node d = is_text_with (λ name. not (is_declared seen.nodes name)) d
 is_undeclared seen form.Link d = option_map_or (λ number. not (nat_lt number (length seen.links))) (as_natural d) false
-is_undeclared seen _ d = false
+is_undeclared seen form.Text d = false
+is_undeclared seen (form.Name longest) d = false
+is_undeclared seen form.Key d = false
+is_undeclared seen form.Hex d = false
+is_undeclared seen (form.Number least most) d = false
+is_undeclared seen (form.Numbers count least most) d = false
+is_undeclared seen form.Flag d = false
+is_undeclared seen form.Kind d = false
+is_undeclared seen form.Show d = false
+is_undeclared seen form.Prefix d = false
+is_undeclared seen form.Acts d = false
 
 -- the field that must name an end of the command's link
 abbrev pub end_field : Word → Option (List ℕ)
@@ -210,7 +240,27 @@ passes_limit seen word.Ask d = false
 
 abbrev pub is_turn : Word → Bool
 is_turn word.Turn = true
-is_turn _ = false
+is_turn word.Lab = false
+is_turn word.Node = false
+is_turn word.Link = false
+is_turn word.Settle = false
+is_turn word.Tick = false
+is_turn word.Set = false
+is_turn word.Own = false
+is_turn word.Disown = false
+is_turn word.Sync = false
+is_turn word.Restart = false
+is_turn word.Up = false
+is_turn word.Down = false
+is_turn word.Script = false
+is_turn word.Get = false
+is_turn word.Drain = false
+is_turn word.LinkDrain = false
+is_turn word.Metric = false
+is_turn word.Advertise = false
+is_turn word.Withdraw = false
+is_turn word.Aggregate = false
+is_turn word.Ask = false
 
 -- one more line that isn't a turn is more than there may be
 abbrev pub is_line_too_many : Seen → Word → Bool
@@ -221,6 +271,10 @@ is_too_many seen w d = is_line_too_many seen w || passes_limit seen w d
 
 -- ---- 14
 
+-- a command of full laboratories: it is misplaced in a laboratory of stores, and behind a turn
+abbrev pub is_full_command_misplaced : Seen → Bool
+is_full_command_misplaced seen = not (is_full (kind_in seen)) || not (has_none seen.turns)
+
 -- A declaration behind a command, a line behind a turn, a turn where none may stand, or a command that the kind of
 -- laboratory doesn't have.
 unfoldable pub is_misplaced : Seen → Bool → Word → Bool
@@ -228,4 +282,21 @@ is_misplaced seen turns word.Lab = false
 is_misplaced seen turns word.Node = not (has_none seen.commands) || not (has_none seen.turns)
 is_misplaced seen turns word.Link = not (has_none seen.commands) || not (has_none seen.turns)
 is_misplaced seen turns word.Turn = not turns
-is_misplaced seen turns w = (is_for_full w && not (is_full (kind_in seen))) || not (has_none seen.turns)
+is_misplaced seen turns word.Settle = not (has_none seen.turns)
+is_misplaced seen turns word.Tick = not (has_none seen.turns)
+is_misplaced seen turns word.Set = not (has_none seen.turns)
+is_misplaced seen turns word.Own = not (has_none seen.turns)
+is_misplaced seen turns word.Disown = not (has_none seen.turns)
+is_misplaced seen turns word.Sync = not (has_none seen.turns)
+is_misplaced seen turns word.Restart = not (has_none seen.turns)
+is_misplaced seen turns word.Up = not (has_none seen.turns)
+is_misplaced seen turns word.Down = not (has_none seen.turns)
+is_misplaced seen turns word.Script = not (has_none seen.turns)
+is_misplaced seen turns word.Get = not (has_none seen.turns)
+is_misplaced seen turns word.Drain = is_full_command_misplaced seen
+is_misplaced seen turns word.LinkDrain = is_full_command_misplaced seen
+is_misplaced seen turns word.Metric = is_full_command_misplaced seen
+is_misplaced seen turns word.Advertise = is_full_command_misplaced seen
+is_misplaced seen turns word.Withdraw = is_full_command_misplaced seen
+is_misplaced seen turns word.Aggregate = is_full_command_misplaced seen
+is_misplaced seen turns word.Ask = is_full_command_misplaced seen

@@ -9,7 +9,6 @@ use Rattle.net_fields.specs.declared.word.Word.TheVariants as word
 use Rattle.net_fields.specs.Members.{text_at, text_or, number_at, number_or, flag_at, kind_at, show_at, prefix_at, value_at, numbers_at, acts_at}
 use Rattle.net_laboratory.specs.Limits.{default_rounds, default_metric, default_path, default_source, default_distance}
 use Rattle.net_laboratory.specs.declared.declared.LinkDecl.{LinkDecl}
-use Rattle.net_laboratory.specs.declared.command.Command.{Command}
 use Rattle.net_laboratory.specs.declared.command.Command.TheVariants.{Settle, Tick, Set, Own, Disown, Sync, Restart, Up, Down, Script, Get, Drain, LinkDrain, Metric, Advertise, Withdraw, Aggregate, Ask}
 use Rattle.net_scenario.specs.declared.statement.Statement.{Statement}
 use Rattle.net_scenario.specs.declared.statement.Statement.TheVariants as says
@@ -69,34 +68,27 @@ prefix_entry_of d = record {
   distance = small_or (codes "distance") default_distance d;
 }
 
--- what is done: the commands of full laboratories alone
-unfoldable pub routing_command_of : Word → Data → Command
-routing_command_of word.Drain d = Drain (node_named d) (flag_at (codes "on") d)
-routing_command_of word.LinkDrain d = LinkDrain (node_named d) (link_at d) (flag_at (codes "on") d)
-routing_command_of word.Metric d = Metric (node_named d) (link_at d) (small_or (codes "metric") 0 d)
-routing_command_of word.Advertise d = Advertise (node_named d) (prefix_entry_of d)
-routing_command_of word.Withdraw d = Withdraw (node_named d) (prefix_or_any d)
-routing_command_of word.Aggregate d = Aggregate (node_named d) (prefix_or_any d) (small_or (codes "min") 0 d)
-routing_command_of _ d = Ask (node_named d) (prefix_or_any d)
-
--- what is done
-unfoldable pub command_of : Word → Data → Command
-command_of word.Settle d = Settle (number_or (codes "rounds") default_rounds d) (show_at (codes "show") d)
-command_of word.Tick d = Tick (number_or (codes "to") 0 d)
-command_of word.Set d = Set (node_named d) (pair_of d)
-command_of word.Own d = Own (node_named d) (key_at d) (value_at d) (number_at (codes "ttl") d)
-command_of word.Disown d = Disown (node_named d) (key_at d)
-command_of word.Sync d = Sync (node_named d) (link_at d)
-command_of word.Restart d = Restart (node_named d)
-command_of word.Up d = Up (link_at d)
-command_of word.Down d = Down (link_at d)
-command_of word.Script d = Script (link_at d) (text_at (codes "from") d) (acts_at (codes "acts") d)
-command_of word.Get d = Get (node_named d) (key_at d)
-command_of w d = routing_command_of w d
-
+-- what a line says, command by command
 unfoldable pub statement_of : Word → Data → Statement
 statement_of word.Lab d = says.Lab (kind_at (codes "kind") d) (number_at (codes "ttl") d)
 statement_of word.Node d = says.Node (record { name = text_at (codes "name") d; faults = numbers_at (codes "faults") d })
 statement_of word.Link d = says.Link (link_of d)
 statement_of word.Turn d = says.Turn (record { lane = small_or (codes "lane") 0 d; at = number_or (codes "at") 0 d })
-statement_of w d = says.Command (command_of w d)
+statement_of word.Settle d = says.Command (Settle (number_or (codes "rounds") default_rounds d) (show_at (codes "show") d))
+statement_of word.Tick d = says.Command (Tick (number_or (codes "to") 0 d))
+statement_of word.Set d = says.Command (Set (node_named d) (pair_of d))
+statement_of word.Own d = says.Command (Own (node_named d) (key_at d) (value_at d) (number_at (codes "ttl") d))
+statement_of word.Disown d = says.Command (Disown (node_named d) (key_at d))
+statement_of word.Sync d = says.Command (Sync (node_named d) (link_at d))
+statement_of word.Restart d = says.Command (Restart (node_named d))
+statement_of word.Up d = says.Command (Up (link_at d))
+statement_of word.Down d = says.Command (Down (link_at d))
+statement_of word.Script d = says.Command (Script (link_at d) (text_at (codes "from") d) (acts_at (codes "acts") d))
+statement_of word.Get d = says.Command (Get (node_named d) (key_at d))
+statement_of word.Drain d = says.Command (Drain (node_named d) (flag_at (codes "on") d))
+statement_of word.LinkDrain d = says.Command (LinkDrain (node_named d) (link_at d) (flag_at (codes "on") d))
+statement_of word.Metric d = says.Command (Metric (node_named d) (link_at d) (small_or (codes "metric") 0 d))
+statement_of word.Advertise d = says.Command (Advertise (node_named d) (prefix_entry_of d))
+statement_of word.Withdraw d = says.Command (Withdraw (node_named d) (prefix_or_any d))
+statement_of word.Aggregate d = says.Command (Aggregate (node_named d) (prefix_or_any d) (small_or (codes "min") 0 d))
+statement_of word.Ask d = says.Command (Ask (node_named d) (prefix_or_any d))

@@ -2,9 +2,10 @@
 
 ghost use Rattle.std.specs.Prelude.{◌≡◌, codes, IfOk};
 ghost use Rattle.serde_json.specs.View.{view};
-ghost use Rattle.net_fields.specs.Members.{text_at, value_at, number_at, acts_at, numbers_at};
-ghost use Rattle.net_scenario.specs.Statement.{small_or, node_named, key_at, link_at, prefix_or_any, link_of, originator_at, pair_of, prefix_entry_of, routing_command_of, command_of, statement_of};
-ghost use Rattle.net_laboratory.specs.declared.command.Command.TheVariants.{Own, Script};
+ghost use Rattle.net_fields.specs.Members.{text_at, number_or, numbers_at};
+ghost use Rattle.net_scenario.specs.Statement.{small_or, node_named, key_at, link_at, prefix_or_any, link_of, originator_at, pair_of, prefix_entry_of, statement_of};
+ghost use Rattle.net_scenario.specs.declared.statement.Statement.TheVariants as says;
+ghost use Rattle.net_fields.specs.declared.word.Word.TheVariants as word;
 
 use crate::conditions::{interface_a, interface_b};
 use crate::statement::Statement;
@@ -123,9 +124,42 @@ fn prefix_entry_of(object: &Value) -> PrefixEntry
     }
 }
 
+/// What a settle line does.
+#[tactic(auto, unfolding(crate::specs::Statement::statement_of))]
+fn settle_of(object: &Value) -> Command
+    ensures { says.Command result ≡ statement_of word.Settle (view object.now) }
+{
+    Command::Settle {
+        rounds: number_or(object, "rounds", DEFAULT_ROUNDS),
+        show: show_at(object, "show"),
+    }
+}
+
+/// What a tick line does.
+#[tactic(auto, unfolding(crate::specs::Statement::statement_of))]
+fn tick_of(object: &Value) -> Command
+    ensures { says.Command result ≡ statement_of word.Tick (view object.now) }
+{
+    Command::Tick {
+        to: number_or(object, "to", 0),
+    }
+}
+
+/// What a set line does.
+#[tactic(auto, unfolding(crate::specs::Statement::statement_of))]
+fn set_of(alloc: Global, object: &Value) -> Result<Command, NoMemory>
+    ensures { IfOk result (λ c. says.Command c ≡ statement_of word.Set (view object.now)) }
+{
+    Ok(Command::Set {
+        node: node_named(alloc, object)?,
+        pair: pair_of(alloc, object)?,
+    })
+}
+
 /// What an own line does.
+#[tactic(auto, unfolding(crate::specs::Statement::statement_of))]
 fn own_of(alloc: Global, object: &Value) -> Result<Command, NoMemory>
-    ensures { IfOk result (λ c. c ≡ Own (node_named (view object.now)) (key_at (view object.now)) (value_at (view object.now)) (number_at (codes "ttl") (view object.now))) }
+    ensures { IfOk result (λ c. says.Command c ≡ statement_of word.Own (view object.now)) }
 {
     Ok(Command::Own {
         node: node_named(alloc, object)?,
@@ -135,9 +169,62 @@ fn own_of(alloc: Global, object: &Value) -> Result<Command, NoMemory>
     })
 }
 
+/// What a disown line does.
+#[tactic(auto, unfolding(crate::specs::Statement::statement_of))]
+fn disown_of(alloc: Global, object: &Value) -> Result<Command, NoMemory>
+    ensures { IfOk result (λ c. says.Command c ≡ statement_of word.Disown (view object.now)) }
+{
+    Ok(Command::Disown {
+        node: node_named(alloc, object)?,
+        key: key_at(alloc, object)?,
+    })
+}
+
+/// What a sync line does.
+#[tactic(auto, unfolding(crate::specs::Statement::statement_of))]
+fn sync_of(alloc: Global, object: &Value) -> Result<Command, NoMemory>
+    ensures { IfOk result (λ c. says.Command c ≡ statement_of word.Sync (view object.now)) }
+{
+    Ok(Command::Sync {
+        node: node_named(alloc, object)?,
+        link: link_at(object),
+    })
+}
+
+/// What a restart line does.
+#[tactic(auto, unfolding(crate::specs::Statement::statement_of))]
+fn restart_of(alloc: Global, object: &Value) -> Result<Command, NoMemory>
+    ensures { IfOk result (λ c. says.Command c ≡ statement_of word.Restart (view object.now)) }
+{
+    Ok(Command::Restart {
+        node: node_named(alloc, object)?,
+    })
+}
+
+/// What an up line does.
+#[tactic(auto, unfolding(crate::specs::Statement::statement_of))]
+fn up_of(object: &Value) -> Command
+    ensures { says.Command result ≡ statement_of word.Up (view object.now) }
+{
+    Command::Up {
+        link: link_at(object),
+    }
+}
+
+/// What a down line does.
+#[tactic(auto, unfolding(crate::specs::Statement::statement_of))]
+fn down_of(object: &Value) -> Command
+    ensures { says.Command result ≡ statement_of word.Down (view object.now) }
+{
+    Command::Down {
+        link: link_at(object),
+    }
+}
+
 /// What a script line does.
+#[tactic(auto, unfolding(crate::specs::Statement::statement_of))]
 fn script_of(alloc: Global, object: &Value) -> Result<Command, NoMemory>
-    ensures { IfOk result (λ c. c ≡ Script (link_at (view object.now)) (text_at (codes "from") (view object.now)) (acts_at (codes "acts") (view object.now))) }
+    ensures { IfOk result (λ c. says.Command c ≡ statement_of word.Script (view object.now)) }
 {
     Ok(Command::Script {
         link: link_at(object),
@@ -146,89 +233,95 @@ fn script_of(alloc: Global, object: &Value) -> Result<Command, NoMemory>
     })
 }
 
-/// What a command of full laboratories does to a node.
-#[tactic(auto, unfolding(crate::specs::Statement::routing_command_of))]
-fn routing_command(word: Word, node: Name, object: &Value) -> Command
-    requires { node ≡ node_named (view object.now) }
-    ensures { result ≡ routing_command_of word (view object.now) }
+/// What a get line does.
+#[tactic(auto, unfolding(crate::specs::Statement::statement_of))]
+fn get_of(alloc: Global, object: &Value) -> Result<Command, NoMemory>
+    ensures { IfOk result (λ c. says.Command c ≡ statement_of word.Get (view object.now)) }
 {
-    match word {
-        Word::Drain => Command::Drain {
-            node,
-            on: flag_at(object, "on"),
-        },
-        Word::LinkDrain => Command::LinkDrain {
-            node,
-            link: link_at(object),
-            on: flag_at(object, "on"),
-        },
-        Word::Metric => Command::Metric {
-            node,
-            link: link_at(object),
-            metric: small_or(object, "metric", 0),
-        },
-        Word::Advertise => Command::Advertise {
-            node,
-            entry: prefix_entry_of(object),
-        },
-        Word::Withdraw => Command::Withdraw {
-            node,
-            prefix: prefix_or_any(object),
-        },
-        Word::Aggregate => Command::Aggregate {
-            node,
-            prefix: prefix_or_any(object),
-            min: small_or(object, "min", 0),
-        },
-        _other => Command::Ask {
-            node,
-            prefix: prefix_or_any(object),
-        },
-    }
+    Ok(Command::Get {
+        node: node_named(alloc, object)?,
+        key: key_at(alloc, object)?,
+    })
 }
 
-/// What a command does.
-#[tactic(auto, unfolding(crate::specs::Statement::command_of))]
-fn command_of(alloc: Global, word: Word, object: &Value) -> Result<Command, NoMemory>
-    ensures { IfOk result (λ c. c ≡ command_of word (view object.now)) }
+/// What a drain line does.
+#[tactic(auto, unfolding(crate::specs::Statement::statement_of))]
+fn drain_of(alloc: Global, object: &Value) -> Result<Command, NoMemory>
+    ensures { IfOk result (λ c. says.Command c ≡ statement_of word.Drain (view object.now)) }
 {
-    match word {
-        Word::Settle => Ok(Command::Settle {
-            rounds: number_or(object, "rounds", DEFAULT_ROUNDS),
-            show: show_at(object, "show"),
-        }),
-        Word::Tick => Ok(Command::Tick {
-            to: number_or(object, "to", 0),
-        }),
-        Word::Set => Ok(Command::Set {
-            node: node_named(alloc, object)?,
-            pair: pair_of(alloc, object)?,
-        }),
-        Word::Own => Ok(own_of(alloc, object)?),
-        Word::Disown => Ok(Command::Disown {
-            node: node_named(alloc, object)?,
-            key: key_at(alloc, object)?,
-        }),
-        Word::Sync => Ok(Command::Sync {
-            node: node_named(alloc, object)?,
-            link: link_at(object),
-        }),
-        Word::Restart => Ok(Command::Restart {
-            node: node_named(alloc, object)?,
-        }),
-        Word::Up => Ok(Command::Up {
-            link: link_at(object),
-        }),
-        Word::Down => Ok(Command::Down {
-            link: link_at(object),
-        }),
-        Word::Script => Ok(script_of(alloc, object)?),
-        Word::Get => Ok(Command::Get {
-            node: node_named(alloc, object)?,
-            key: key_at(alloc, object)?,
-        }),
-        _other => Ok(routing_command(word, node_named(alloc, object)?, object)),
-    }
+    Ok(Command::Drain {
+        node: node_named(alloc, object)?,
+        on: flag_at(object, "on"),
+    })
+}
+
+/// What a linkdrain line does.
+#[tactic(auto, unfolding(crate::specs::Statement::statement_of))]
+fn link_drain_of(alloc: Global, object: &Value) -> Result<Command, NoMemory>
+    ensures { IfOk result (λ c. says.Command c ≡ statement_of word.LinkDrain (view object.now)) }
+{
+    Ok(Command::LinkDrain {
+        node: node_named(alloc, object)?,
+        link: link_at(object),
+        on: flag_at(object, "on"),
+    })
+}
+
+/// What a metric line does.
+#[tactic(auto, unfolding(crate::specs::Statement::statement_of))]
+fn metric_of(alloc: Global, object: &Value) -> Result<Command, NoMemory>
+    ensures { IfOk result (λ c. says.Command c ≡ statement_of word.Metric (view object.now)) }
+{
+    Ok(Command::Metric {
+        node: node_named(alloc, object)?,
+        link: link_at(object),
+        metric: small_or(object, "metric", 0),
+    })
+}
+
+/// What an advertise line does.
+#[tactic(auto, unfolding(crate::specs::Statement::statement_of))]
+fn advertise_of(alloc: Global, object: &Value) -> Result<Command, NoMemory>
+    ensures { IfOk result (λ c. says.Command c ≡ statement_of word.Advertise (view object.now)) }
+{
+    Ok(Command::Advertise {
+        node: node_named(alloc, object)?,
+        entry: prefix_entry_of(object),
+    })
+}
+
+/// What a withdraw line does.
+#[tactic(auto, unfolding(crate::specs::Statement::statement_of))]
+fn withdraw_of(alloc: Global, object: &Value) -> Result<Command, NoMemory>
+    ensures { IfOk result (λ c. says.Command c ≡ statement_of word.Withdraw (view object.now)) }
+{
+    Ok(Command::Withdraw {
+        node: node_named(alloc, object)?,
+        prefix: prefix_or_any(object),
+    })
+}
+
+/// What an aggregate line does.
+#[tactic(auto, unfolding(crate::specs::Statement::statement_of))]
+fn aggregate_of(alloc: Global, object: &Value) -> Result<Command, NoMemory>
+    ensures { IfOk result (λ c. says.Command c ≡ statement_of word.Aggregate (view object.now)) }
+{
+    Ok(Command::Aggregate {
+        node: node_named(alloc, object)?,
+        prefix: prefix_or_any(object),
+        min: small_or(object, "min", 0),
+    })
+}
+
+/// What an ask line does.
+#[tactic(auto, unfolding(crate::specs::Statement::statement_of))]
+fn ask_of(alloc: Global, object: &Value) -> Result<Command, NoMemory>
+    ensures { IfOk result (λ c. says.Command c ≡ statement_of word.Ask (view object.now)) }
+{
+    Ok(Command::Ask {
+        node: node_named(alloc, object)?,
+        prefix: prefix_or_any(object),
+    })
 }
 
 /// The node of a node line.
@@ -241,30 +334,68 @@ fn node_of(alloc: Global, object: &Value) -> Result<NodeDecl, NoMemory>
     })
 }
 
+/// The turn of a turn line.
+fn turn_of(object: &Value) -> Turn
+    ensures { result ≡ record { lane = small_or (codes "lane") 0 (view object.now); at = number_or (codes "at") 0 (view object.now) } }
+{
+    Turn {
+        lane: small_or(object, "lane", 0),
+        at: number_or(object, "at", 0),
+    }
+}
+
+/// A line that says this command.
+fn says(command: Command) -> Statement
+    ensures { result ≡ says.Command command }
+{
+    Statement::Command { command }
+}
+
+/// What a line of a laboratory says.
+#[tactic(auto, unfolding(crate::specs::Statement::statement_of))]
+fn lab_of(object: &Value) -> Statement
+    ensures { result ≡ statement_of word.Lab (view object.now) }
+{
+    Statement::Lab {
+        kind: kind_at(object, "kind"),
+        ttl: number_at(object, "ttl"),
+    }
+}
+
 /// What a line says that is this object and names this command.
 #[tactic(auto, unfolding(crate::specs::Statement::statement_of))]
 pub fn statement_of(alloc: Global, word: Word, object: &Value) -> Result<Statement, NoMemory>
     ensures { IfOk result (λ s. s ≡ statement_of word (view object.now)) }
 {
-    match word {
-        Word::Lab => Ok(Statement::Lab {
-            kind: kind_at(object, "kind"),
-            ttl: number_at(object, "ttl"),
-        }),
-        Word::Node => Ok(Statement::Node {
+    let statement = match word {
+        Word::Lab => lab_of(object),
+        Word::Node => Statement::Node {
             node: node_of(alloc, object)?,
-        }),
-        Word::Link => Ok(Statement::Link {
+        },
+        Word::Link => Statement::Link {
             link: link_of(alloc, object)?,
-        }),
-        Word::Turn => Ok(Statement::Turn {
-            turn: Turn {
-                lane: small_or(object, "lane", 0),
-                at: number_or(object, "at", 0),
-            },
-        }),
-        _other => Ok(Statement::Command {
-            command: command_of(alloc, word, object)?,
-        }),
-    }
+        },
+        Word::Turn => Statement::Turn {
+            turn: turn_of(object),
+        },
+        Word::Settle => says(settle_of(object)),
+        Word::Tick => says(tick_of(object)),
+        Word::Set => says(set_of(alloc, object)?),
+        Word::Own => says(own_of(alloc, object)?),
+        Word::Disown => says(disown_of(alloc, object)?),
+        Word::Sync => says(sync_of(alloc, object)?),
+        Word::Restart => says(restart_of(alloc, object)?),
+        Word::Up => says(up_of(object)),
+        Word::Down => says(down_of(object)),
+        Word::Script => says(script_of(alloc, object)?),
+        Word::Get => says(get_of(alloc, object)?),
+        Word::Drain => says(drain_of(alloc, object)?),
+        Word::LinkDrain => says(link_drain_of(alloc, object)?),
+        Word::Metric => says(metric_of(alloc, object)?),
+        Word::Advertise => says(advertise_of(alloc, object)?),
+        Word::Withdraw => says(withdraw_of(alloc, object)?),
+        Word::Aggregate => says(aggregate_of(alloc, object)?),
+        Word::Ask => says(ask_of(alloc, object)?),
+    };
+    Ok(statement)
 }

@@ -12,7 +12,8 @@ use Rattle.std.proofs.lemmas.List.{set-set}
 use Rattle.std.proofs.lemmas.List.Elements.{All-nil, All-cons, All-head, All-tail, All-weaker}
 use Rattle.or_base.specs.declared.item.Stamped.{Stamped}
 use Rattle.net_record.specs.World.{WorldState, is_empty}
-use Rattle.net_record.specs.Rounds.{turns_on, round_from, round}
+use Rattle.net_record.specs.Rounds.{turns_on, round}
+use Rattle.net_record.proofs.Counted.{round_from}
 use Rattle.net_world.specs.declared.lanes.Busy.{Busy}
 use Rattle.net_world.specs.Busy.{busy_among, busy_at, busy_lanes, turns_on_each, AreBusy, with_busy, without_busy}
 

@@ -4,9 +4,15 @@ use Rattle.net_laboratory.specs.Scenario.{Laboratory}
 use Rattle.net_record.specs.declared.record.Record.{Record}
 use Rattle.net_record.specs.Rounds.{round_robin}
 use Rattle.net_record.specs.Run.{run, schedule_of, RoundsAreARun}
-use Rattle.net_record.specs.Records.{IsSettled, IsRecordOf}
+use Rattle.net_record.specs.Records.{record_of, IsSettled, IsRecordOf}
 use Rattle.net_record.specs.Ends.{EndsDrained, SettledRoundsEndDrained}
-use Rattle.net_record.specs.Fronts.{TellStores, SettlesTellStores, worlds_settled}
+use Rattle.net_record.specs.Fronts.{SettlesTellStores}
+use Rattle.net_record.specs.Answered.{AnswersAreHeld, NoneBehind}
+use Rattle.net_record.specs.Syncs.{SyncsDiffer}
+use Rattle.net_record.specs.Tells.{RecordTells}
+use Rattle.net_world.specs.declared.fault.RunFault.{RunFault}
+use Rattle.net_world.specs.declared.fault.RunFault.TheVariants.{Unsettled, NoMemory}
+use Rattle.net_world.specs.Fault.{IsFaultOf, FaultTells}
 
 -- the record is that of the run under the schedule of its own turns
 pub recorded_run : (lab : Laboratory) (done : Record) → RoundsAreARun → IsSettled (round_robin lab) done → IsRecordOf (run lab (schedule_of done.turns)) done
@@ -19,9 +25,18 @@ recorded_run lab done law settled =
 pub recorded_end : (lab : Laboratory) (done : Record) → SettledRoundsEndDrained → IsSettled (round_robin lab) done → EndsDrained lab
 recorded_end lab done law settled = law lab settled.settled
 
--- what its settles tell of the stores
-pub recorded_stores : (lab : Laboratory) (done : Record) → SettlesTellStores → IsSettled (round_robin lab) done → TellStores (worlds_settled lab) done.settles done.journals
-recorded_stores lab done law settled =
-    subst (λ (d : Record). TellStores (worlds_settled lab) d.settles d.journals) (sym settled.all) (law lab)
+-- what the record of where the rounds ended tells
+told : (lab : Laboratory) → SettlesTellStores → AnswersAreHeld → NoneBehind → SyncsDiffer
+    → RecordTells lab (record_of (round_robin lab).last.world (round_robin lab).last.marks)
+told lab stores answers current syncs = record { stores = stores lab; answers = answers lab; current = current lab; syncs = syncs lab }
 
-pub ruleset recorded = (recorded_run, recorded_end, recorded_stores)
+-- what the record tells
+pub recorded_tells : (lab : Laboratory) (done : Record) → SettlesTellStores → AnswersAreHeld → NoneBehind → SyncsDiffer → IsSettled (round_robin lab) done → RecordTells lab done
+recorded_tells lab done stores answers current syncs settled = subst (RecordTells lab) (sym settled.all) (told lab stores answers current syncs)
+
+-- and that of a run that is unsettled
+pub fault_tells : (lab : Laboratory) (fault : RunFault) → SettlesTellStores → AnswersAreHeld → NoneBehind → SyncsDiffer → IsFaultOf (round_robin lab) fault → FaultTells lab fault
+fault_tells lab (Unsettled settle done) stores answers current syncs unsettled = subst (RecordTells lab) (sym unsettled.all) (told lab stores answers current syncs)
+fault_tells lab NoMemory stores answers current syncs unsettled = tt
+
+pub ruleset recorded = (recorded_run, recorded_end, recorded_tells, fault_tells)

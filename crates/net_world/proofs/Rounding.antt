@@ -3,7 +3,8 @@ use Rattle.std.proofs.Common.{◌≡◌, ℕ, suc, ◌+◌, ◌-◌, ◌<◌, Li
 use Rattle.net_record.specs.declared.phase.Phase.{Phase}
 use Rattle.net_record.specs.World.{WorldState, turn, is_drained}
 use Rattle.net_record.specs.Budget.{is_over}
-use Rattle.net_record.specs.Rounds.{Marked, Ended, longest, turns_on, rounds_of, after_round, phase_of, settle_after, rounds_from}
+use Rattle.net_record.specs.Rounds.{Marked, RoundsEnded, longest, turns_on, rounds_of, after_round, phase_of, settle_after}
+use Rattle.net_record.proofs.Counted.{rounds_from}
 use Rattle.net_world.specs.Settling.{after_phase, settles_phase}
 
 -- one of so many turns
@@ -28,14 +29,14 @@ rounds_stop m count done h stops = let e : count - done ≡ suc (count - (done +
 pub ruleset rounds_steps = (rounds_step, rounds_stop)
 
 -- the run goes on after a phase
-goes_on : (unsettled over : Bool) (ended after_all : Ended) (last : Ended) → not unsettled && not over ≡ true
+goes_on : (unsettled over : Bool) (ended after_all : RoundsEnded) (last : RoundsEnded) → not unsettled && not over ≡ true
     → cond unsettled ended (cond over after_all last) ≡ last
 goes_on true over ended after_all last h = cc h
 goes_on false true ended after_all last h = cc h
 goes_on false false ended after_all last h = refl
 
 -- it doesn't
-stops : (unsettled over : Bool) (number : ℕ) (done next : Marked) (last : Ended) → not unsettled && not over ≡ false
+stops : (unsettled over : Bool) (number : ℕ) (done next : Marked) (last : RoundsEnded) → not unsettled && not over ≡ false
     → record { unsettled = Some number; last = cond unsettled done next }
     ≡ cond unsettled (record { unsettled = Some number; last = done }) (cond over (record { unsettled = Some number; last = next }) last)
 stops true over number done next last h = refl

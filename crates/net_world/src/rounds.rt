@@ -1,23 +1,24 @@
 ghost use Rattle.std.specs.Prelude.{◌≡◌, ◌+◌, ◌<◌, ◌^◌, [], All, length, IfOk, IfErr, OnOk};
+ghost use Rattle.std.specs.List.{enumerate_from};
 ghost use Rattle.net_record.specs.World.{start, is_drained};
 ghost use Rattle.net_record.specs.Budget.{is_over};
-ghost use Rattle.net_record.specs.Rounds.{turns_on, round, after_round, rounds_of, phase_of, rounds_from, round_robin};
+ghost use Rattle.net_record.specs.Rounds.{turns_on, round, after_round, rounds_of, phase_of, rounds_of_phases, round_robin};
 ghost use Rattle.net_record.specs.Records.{record_of, IsSettled, IsRecordOf};
 ghost use Rattle.net_record.specs.Run.{run, schedule_of};
 ghost use Rattle.net_record.specs.Ends.{EndsDrained};
-ghost use Rattle.net_record.specs.Fronts.{TellStores, worlds_settled};
+ghost use Rattle.net_record.specs.Tells.{RecordTells};
 ghost use Rattle.net_record.specs.Small.{IssuesSmallLinks};
 ghost use Rattle.net_world.specs.Busy.{turns_on_each};
 ghost use Rattle.net_world.specs.Settling.{after_phase, settles_phase};
-ghost use Rattle.net_world.specs.Fault.{IsFaultOf};
+ghost use Rattle.net_world.specs.Fault.{IsFaultOf, FaultTells};
 
 use crate::fault::RunFault;
 use crate::lanes::Busy;
 use crate::world::World;
 use net_laboratory::Scenario;
 use net_record::{
-    Phase, Record, desks_asked, phases, rounds_are_a_run, settled_rounds_end_drained,
-    settles_tell_stores,
+    Phase, Record, answers_are_held, desks_asked, none_is_behind, phases, rounds_are_a_run,
+    settled_rounds_end_drained, settles_tell_stores, syncs_differ,
 };
 use or_base::NoMemory;
 use std::alloc::Global;
@@ -146,7 +147,7 @@ impl MarkedWorld {
     #[tactic(auto, using(crate::proofs::Rounding::phases_steps))]
     fn run_phases(&mut self, phases: Vec<Phase>) -> Result<Option<u64>, NoMemory>
         requires { All IssuesSmallLinks phases.items }
-        ensures { IfOk result (λ unsettled. record { unsettled = unsettled; last = self.new } ≡ rounds_from 1 self.old phases.items) }
+        ensures { IfOk result (λ unsettled. record { unsettled = unsettled; last = self.new } ≡ rounds_of_phases self.old (enumerate_from 1 phases.items)) }
     {
         let mut number = 1;
         for phase in phases {
@@ -185,19 +186,26 @@ fn run_scenario(alloc: Global, scenario: &Scenario) -> Result<Record, RunFault>
 
 /// Runs a scenario by round robin: in each phase rounds until no item waits, at most as many as the settle that ends
 /// it allows. The record is that of these rounds. Each phase has its settle, and no item waits at the end. But for its
-/// marks the record is that of the run under the schedule of its own turns. Every store is its journal: what a settle tells
-/// of one are as many entries as it had then, the first of the journal in the record.
+/// marks the record is that of the run under the schedule of its own turns. Whether the run settled or not, every store is
+/// its journal: what a settle tells of one are as many entries as it had then, the first of the journal in the record, and
+/// each answer is what some first entries of its node's journal tell, no desk is behind, and no two finished full syncs that
+/// settles tell of one node have the same number. It fails where a phase is unsettled, with the phase and the record up to
+/// there, and where memory runs out.
 #[tactic(auto, using(crate::proofs::Recorded::recorded))]
 pub fn round_robin(alloc: Global, scenario: &Scenario) -> Result<Record, RunFault>
     ensures rounds { IfOk result (λ done. IsSettled (round_robin scenario.now) done) }
     ensures drained { IfOk result (λ done. EndsDrained scenario.now) }
     ensures is_run { IfOk result (λ done. IsRecordOf (run scenario.now (schedule_of done.turns)) done) }
-    ensures stores { IfOk result (λ done. TellStores (worlds_settled scenario.now) done.settles done.journals) }
+    ensures tells { IfOk result (λ done. RecordTells scenario.now done) }
     ensures fault { IfErr result (λ fault. IsFaultOf (round_robin scenario.now) fault) }
+    ensures fault_tells { IfErr result (λ fault. FaultTells scenario.now fault) }
 {
     rounds_are_a_run();
     settled_rounds_end_drained();
     settles_tell_stores();
+    answers_are_held();
+    none_is_behind();
+    syncs_differ();
     let done = run_scenario(alloc, scenario)?;
     Ok(done)
 }

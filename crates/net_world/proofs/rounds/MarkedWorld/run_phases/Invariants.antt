@@ -2,7 +2,7 @@ use Rattle.std.proofs.Common.{◌≡◌, ◌+◌, ◌<◌, ◌^◌, length}
 use Rattle.std.specs.Prelude.{All}
 use Rattle.std.specs.Vec.Iter.{into_iter_items}
 use Rattle.net_record.specs.Small.{IssuesSmallLinks}
-use Rattle.net_record.specs.Rounds.{rounds_from}
+use Rattle.net_record.proofs.Counted.{rounds_from}
 use Rattle.net_world.proofs.rounds.MarkedWorld.run_phases.Given as goal
 
 -- the phases that are left give what all of them give

@@ -1,0 +1,5 @@
+use Rattle.net_record.proofs.Held.{answers_are_held}
+use Rattle.net_record.proofs.answers_are_held.Goals as goal
+
+pub returns : goal.returns
+returns c = answers_are_held
