@@ -1,6 +1,6 @@
 //! or_prefix: prefixes that are read and printed, and texts that are none.
 
-use or_base::NoMemory;
+use or_base::{NoMemory, Prefix};
 use or_prefix::{prefix_text, read_prefix};
 use std::alloc::Global;
 use std::test::Fail;
@@ -108,5 +108,17 @@ fn lengths_and_bits_keep_their_bounds(rt: HostRuntime) -> Result<(), Fail> {
         given.as_slice(),
         "BadLength;BadLength;BadLength;HostBits;HostBits;HostBits;".as_bytes()
     );
+    Ok(())
+}
+
+#[test]
+fn ipv4_prefixes_are_before_ipv6_prefixes(rt: HostRuntime) -> Result<(), Fail> {
+    let four = Prefix::new(false, 0xffff_0000, 16);
+    let whole = Prefix::new(true, 0, 0);
+    let short = Prefix::new(true, 1 << 127, 1);
+    let long = Prefix::new(true, 1 << 127, 2);
+    assert!(rt; four < whole);
+    assert!(rt; whole < short);
+    assert!(rt; short < long);
     Ok(())
 }

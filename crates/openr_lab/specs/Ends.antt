@@ -8,22 +8,22 @@ use Rattle.net_scenario.specs.Language.{scenario_of}
 use Rattle.net_record.specs.declared.record.Record.{Record}
 use Rattle.net_record.specs.Rounds.{round_robin}
 use Rattle.net_record.specs.Run.{run as run_of, schedule_of}
-use Rattle.net_record.specs.Records.{IsSettled, IsRecordOf}
+use Rattle.net_record.specs.Records.{IsSettled, IsUnsettled, IsRecordOf}
 use Rattle.net_record.specs.Ends.{EndsDrained}
-use Rattle.net_record.specs.Fronts.{TellStores, worlds_settled}
+use Rattle.net_record.specs.Tells.{RecordTells}
 use Rattle.net_report.specs.Report.{line, report as report_of}
 use Rattle.openr_lab.specs.declared.answer.Answer.{Answer}
 use Rattle.openr_lab.specs.Streams.{read_limit, ReadWhole, WroteWhole, WroteFront}
 use Rattle.openr_lab.specs.Built.{is_mode_built, is_built}
-use Rattle.openr_lab.specs.Answer.{answer_to, not_built_line}
+use Rattle.openr_lab.specs.Answer.{answer_to, not_built_line, unsettled_line}
 
 -- the statuses: done, wrong words, no scenario, unsettled, out of memory, a read that failed, a write that failed
 abbrev pub is_status : ℕ → Bool
 is_status n = n == 0 || n == 2 || n == 3 || n == 4 || n == 5 || n == 6 || n == 7
 
 -- the statuses at which the answer to the bytes was written
-abbrev pub IsAnswered : ℕ → Type 0
-IsAnswered n = (n ≡ 0) ⊎ ((n ≡ 3) ⊎ (n ≡ 4))
+abbrev pub IsAnswerStatus : ℕ → Type 0
+IsAnswerStatus n = (n ≡ 0) ⊎ ((n ≡ 3) ⊎ (n ≡ 4))
 
 -- what the words ask for
 abbrev pub asked_by : List (String Global) → Option Words
@@ -94,28 +94,53 @@ AnswerFailed words left left' taken taken' run =
     ReadFailed words left left' taken taken' run ⊎ NotBuiltFailed words left left' taken taken' run
 
 -- What status 0 says of the run of a laboratory: the record is that of its run by round robin, which settled every
--- phase and left no item. But for its marks it is the record of the run under the schedule of its own turns. What each settle
--- tells of a store are the entries that its journal had then. The text is its report.
+-- phase and left no item. But for its marks it is the record of the run under the schedule of its own turns. What it tells of
+-- stores, answers and full syncs holds (`RecordTells`). The text is its report.
 pub record IsReplay (lab : Laboratory) (trace : Bool) (text : List ℕ) (run : Option Record) : Type 0 where
   pub done : Record
   pub recorded : run ≡ Some done
   pub rounds : IsSettled (round_robin lab) done
   pub drained : EndsDrained lab
   pub is_run : IsRecordOf (run_of lab (schedule_of done.turns)) done
-  pub stores : TellStores (worlds_settled lab) done.settles done.journals
+  pub tells : RecordTells lab done
   pub report : text ≡ report_of done lab trace
 
--- What status 0 says of the whole call: the source was read to its end, its bytes are a scenario that the program
--- runs, and the report of the scenario's run was written whole.
-pub record Done (words : Words) (left left' taken taken' : Option (List ℕ)) (run : Option Record) : Type 0 where
+-- What status 4 says of the run of a laboratory: the record is that of its run by round robin up to a phase that is unsettled, and what
+-- it tells holds all the same. The text names the phase.
+pub record IsUnsettledRun (lab : Laboratory) (text : List ℕ) (run : Option Record) : Type 0 where
+  pub phase : ℕ
+  pub done : Record
+  pub recorded : run ≡ Some done
+  pub rounds : IsUnsettled (round_robin lab) phase done
+  pub tells : RecordTells lab done
+  pub named : text ≡ unsettled_line phase
+
+-- these bytes are a scenario that the program runs under these words, and this holds of its laboratory
+abbrev pub IsRun : Words → List ℕ → (Laboratory → Type 0) → Type 0
+IsRun words bytes holds = (lab : Laboratory) × (scenario_of bytes true ≡ Ok lab) × (is_built words lab ≡ true) × holds lab
+
+-- A call that ran a laboratory: the source was read to its end, its bytes are the laboratory's scenario, which the program runs, and
+-- the text was written whole.
+pub record RunAnswered (words : Words) (left left' taken taken' : Option (List ℕ)) (lab : Laboratory) (text : List ℕ) : Type 0 where
   pub bytes : List ℕ
-  pub lab : Laboratory
-  pub text : List ℕ
   pub read : ReadToEnd left left' bytes
   pub scenario : scenario_of bytes true ≡ Ok lab
   pub built : is_built words lab ≡ true
-  pub replay : IsReplay lab words.trace text run
   pub written : WroteWhole taken taken' text
+
+-- What status 0 says of the whole call: the text is the report of the scenario's run.
+pub record Done (words : Words) (left left' taken taken' : Option (List ℕ)) (run : Option Record) : Type 0 where
+  pub lab : Laboratory
+  pub text : List ℕ
+  pub ran : RunAnswered words left left' taken taken' lab text
+  pub replay : IsReplay lab words.trace text run
+
+-- What status 4 says of the whole call: the text names the phase of the scenario's run that is unsettled.
+pub record AnsweredUnsettled (words : Words) (left left' taken taken' : Option (List ℕ)) (run : Option Record) : Type 0 where
+  pub lab : Laboratory
+  pub text : List ℕ
+  pub ran : RunAnswered words left left' taken taken' lab text
+  pub unsettled : IsUnsettledRun lab text run
 
 -- ---- the same of the words as they are given
 

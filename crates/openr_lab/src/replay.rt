@@ -1,9 +1,7 @@
 ghost use Rattle.std.specs.Prelude.{◌≡◌, ◌≤◌, ◌⊎◌, Ok, None, IfOk, length, true};
-ghost use Rattle.net_laboratory.specs.Scenario.{Laboratory};
-ghost use Rattle.net_scenario.specs.Language.{scenario_of};
 ghost use Rattle.openr_lab.specs.Built.{is_built};
 ghost use Rattle.openr_lab.specs.Answer.{answer_ran, answer_for, answer_to, not_built_line, fault_line};
-ghost use Rattle.openr_lab.specs.Ends.{IsAnswered, IsReplay};
+ghost use Rattle.openr_lab.specs.Ends.{IsAnswerStatus, IsReplay, IsUnsettledRun, IsRun};
 
 use crate::answer::Answer;
 use crate::built::built;
@@ -42,8 +40,9 @@ fn refuse_unbuilt(alloc: Global) -> Result<Answer, NoMemory>
 #[tactic(auto, using(crate::proofs::Answers::answer_steps))]
 fn replay(alloc: Global, trace: bool, scenario: &Scenario) -> Result<Answer, NoMemory>
     ensures answer { IfOk result (λ answer. answer ≡ answer_ran trace scenario.now) }
-    ensures status { IfOk result (λ answer. IsAnswered answer.status) }
+    ensures status { IfOk result (λ answer. IsAnswerStatus answer.status) }
     ensures replay { IfOk result (λ answer. answer.status ≡ 0 → IsReplay scenario.now trace answer.text answer.run) }
+    ensures unsettled { IfOk result (λ answer. answer.status ≡ 4 → IsUnsettledRun scenario.now answer.text answer.run) }
 {
     match round_robin(alloc, scenario) {
         Ok(done) => Ok(Answer {
@@ -64,9 +63,10 @@ fn replay(alloc: Global, trace: bool, scenario: &Scenario) -> Result<Answer, NoM
 #[tactic(auto, unfolding(crate::specs::Answer::answer_for))]
 fn answer_scenario(alloc: Global, words: &Words, scenario: &Scenario) -> Result<Answer, NoMemory>
     ensures answer { IfOk result (λ answer. answer ≡ answer_for words.now (Ok scenario.now)) }
-    ensures status { IfOk result (λ answer. IsAnswered answer.status) }
-    ensures built { IfOk result (λ answer. answer.status ≡ 0 → is_built words.now scenario.now ≡ true) }
+    ensures status { IfOk result (λ answer. IsAnswerStatus answer.status) }
+    ensures built { IfOk result (λ answer. (answer.status ≡ 3) ⊎ (is_built words.now scenario.now ≡ true)) }
     ensures replay { IfOk result (λ answer. answer.status ≡ 0 → IsReplay scenario.now words.now.trace answer.text answer.run) }
+    ensures unsettled { IfOk result (λ answer. answer.status ≡ 4 → IsUnsettledRun scenario.now answer.text answer.run) }
 {
     if built(words, scenario) {
         Ok(replay(alloc, words.trace, scenario)?)
@@ -79,11 +79,12 @@ fn answer_scenario(alloc: Global, words: &Words, scenario: &Scenario) -> Result<
 #[tactic(auto, unfolding(crate::specs::Answer::answer_for))]
 pub fn answer_to(alloc: Global, words: &Words, bytes: &[u8]) -> Result<Answer, NoMemory>
     ensures answer { IfOk result (λ answer. answer ≡ answer_to words.now bytes.now) }
-    ensures status { IfOk result (λ answer. IsAnswered answer.status) }
+    ensures status { IfOk result (λ answer. IsAnswerStatus answer.status) }
     ensures small { IfOk result (λ answer. (answer.status ≡ 3) ⊎ (length bytes.now ≤ 33554432)) }
     ensures replay { IfOk result (λ answer. answer.status ≡ 0
-        → (lab : Laboratory) × (scenario_of bytes.now true ≡ Ok lab) × (is_built words.now lab ≡ true)
-        × IsReplay lab words.now.trace answer.text answer.run) }
+        → IsRun words.now bytes.now (λ lab. IsReplay lab words.now.trace answer.text answer.run)) }
+    ensures unsettled { IfOk result (λ answer. answer.status ≡ 4
+        → IsRun words.now bytes.now (λ lab. IsUnsettledRun lab answer.text answer.run)) }
 {
     match read_scenario(alloc, bytes, true) {
         Ok(scenario) => Ok(answer_scenario(alloc, words, &scenario)?),
