@@ -103,7 +103,7 @@ impl LinkDirection {
     pub fn add_acts(&mut self, acts: Seq<Act>) -> Result<(), NoMemory>
         ensures { OnOk result (self.new ≡ with_acts self.old acts) }
     {
-        append_acts(&mut self.script, acts.into_vec())?;
+        append_acts(&mut self.script, acts.into_vec()?)?;
         Ok(())
     }
 }

@@ -5,7 +5,7 @@ use Rattle.std.proofs.lemmas.Bool.{cases_lt, false≢true}
 use Rattle.std.proofs.lemmas.List.{length-map, length-replicate, get_or_past}
 use Rattle.std.proofs.lemmas.List.Elements.{All-nil, All-cons, All-set, All-get_or, All-same, All-head, All-tail, All-weaker, All-replicate, All-map}
 use Rattle.or_base.specs.declared.item.Stamped.{Stamped}
-use Rattle.or_base.specs.declared.item.TurnDone.{TurnDone}
+use Rattle.or_base.specs.TurnDone.{TurnDone}
 use Rattle.net_record.specs.declared.role.Role.{Role}
 use Rattle.net_record.specs.declared.wire.Wire.{Wire}
 use Rattle.net_record.specs.declared.actor.ActorState.{ActorState}

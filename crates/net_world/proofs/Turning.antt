@@ -3,7 +3,7 @@ use Rattle.std.proofs.Common.{◌≡◌, ℕ, ◌+◌, ◌<◌, List, [], ◌∷
 use Rattle.std.proofs.lemmas.Option.{slice_get-get_or}
 use Rattle.or_base.specs.declared.item.Item.{Item}
 use Rattle.or_base.specs.declared.item.Stamped.{Stamped}
-use Rattle.or_base.specs.declared.item.TurnDone.{TurnDone}
+use Rattle.or_base.specs.TurnDone.{TurnDone}
 use Rattle.or_actor.specs.declared.output.Output.{Output}
 use Rattle.net_record.specs.declared.wire.Wire.{Wire}
 use Rattle.net_record.specs.declared.actor.ActorState.{ActorState}

@@ -3,7 +3,7 @@ use Rattle.std.proofs.Common.{◌≡◌, ℕ, ◌+◌, List, [], ◌∷◌, ◌+
 use Rattle.std.specs.Prelude.{sum_by}
 use Rattle.std.proofs.lemmas.Bool.{cases_lt, lt-ltb, le-ltb, or_left}
 use Rattle.std.proofs.lemmas.List.Sums.{sum_by_push}
-use Rattle.or_base.specs.declared.item.TurnDone.{TurnDone}
+use Rattle.or_base.specs.TurnDone.{TurnDone}
 use Rattle.net_record.specs.declared.record.SettleDone.{SettleDone}
 use Rattle.or_base.specs.Counting.{saturate}
 use Rattle.net_laboratory.specs.Limits.{most_turns}

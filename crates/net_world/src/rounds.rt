@@ -134,7 +134,7 @@ impl MarkedWorld {
             moment,
         } = phase;
         let asked = desks_asked(*self.marks.allocator(), issues.as_slice())?;
-        self.world.issue(issues.into_vec())?;
+        self.world.issue(issues.into_vec()?)?;
         self.run_rounds(rounds)?;
         if self.is_over() || !self.is_drained() {
             return Ok(false);

@@ -17,6 +17,7 @@ use or_actor::Output;
 use or_base::{NoMemory, Seq, TurnDone};
 use std::alloc::Global;
 use std::marker::Model;
+use std::snapshot::Snapshot;
 
 /// Actors, the lanes among them, and what they have done with its weight. Out of memory in a call, the world is
 /// spent.
@@ -109,7 +110,8 @@ impl World {
         self.turns.reserve(1)?;
         let reader = self.wiring.reader(lane);
         let taken = self.lanes.take(lane as u32);
-        let item = taken.item.copied()?;
+        let item = Snapshot::of(&taken.item);
+        let weight = add_item(self.weight, &taken.item);
         let TurnOutputs { stamp, outputs } = act(
             self.alloc,
             &mut self.actors,
@@ -118,14 +120,9 @@ impl World {
             taken,
             at,
         )?;
-        let weight = add_item(self.weight, &item);
         self.weight = weight;
-        self.turns.push_reserved(TurnDone {
-            lane: lane as u32,
-            at,
-            stamp,
-            item,
-        });
+        self.turns
+            .push_reserved(TurnDone::new(lane as u32, at, stamp, item));
         deliver(&self.wiring, &mut self.lanes, reader, stamp, outputs)?;
         Ok(())
     }
@@ -189,7 +186,7 @@ impl World {
             weight: _weight,
             alloc,
         } = self;
-        let journals = journals_of(alloc, actors.as_slice())?;
+        let journals = journals_of(alloc, actors)?;
         Ok(Record {
             turns: Seq::from_vec(turns),
             journals: Seq::from_vec(journals),

@@ -5,6 +5,10 @@ use Rattle.std.specs.Prelude.{ℕ, ◌+◌}
 abbrev pub store_port : ℕ
 store_port = 4
 
+-- Decision of a store's own node
+abbrev pub decision_port : ℕ
+decision_port = 5
+
 -- the desk of a module's own node
 abbrev pub desk_port : ℕ
 desk_port = 7

@@ -20,4 +20,4 @@ pub use fits::{LINK_NUMBER_END, has_small_link};
 pub use module::Module;
 pub use outbox::Outbox;
 pub use output::Output;
-pub use ports::{DESK_PORT, END_B_PORTS, FIRST_LINK_PORT, STORE_PORT};
+pub use ports::{DECISION_PORT, DESK_PORT, END_B_PORTS, FIRST_LINK_PORT, STORE_PORT};

@@ -1,6 +1,9 @@
 /// The port of the store of a module's own node; a link's port for the store of its end a.
 pub const STORE_PORT: u32 = 4;
 
+/// The port of Decision of a store's own node.
+pub const DECISION_PORT: u32 = 5;
+
 /// The port of the desk of a module's own node.
 pub const DESK_PORT: u32 = 7;
 

@@ -9,3 +9,5 @@ pub mod Memory
 pub mod Counting
 pub mod ByLink
 pub mod Names
+pub mod Shared
+pub mod TurnDone

@@ -161,28 +161,3 @@ impl Copied for Stamped {
         Stamped::copied(self)
     }
 }
-
-/// A turn that was done: the lane whose reader took the item, the length that a desk found there (0 for every
-/// other reader), the turn's stamp, and the item.
-#[derive(Clone, Drop)]
-pub struct TurnDone {
-    pub lane: u32,
-    pub at: u64,
-    pub stamp: u64,
-    pub item: Item,
-}
-
-impl TurnDone {
-    /// An equal turn.
-    pub fn copied(&self) -> Result<Self, NoMemory>
-        ensures { IfOk result (λ copy. copy ≡ self.now) }
-    {
-        Ok(self.clone()?)
-    }
-}
-
-impl Copied for TurnDone {
-    fn copied(&self) -> Result<Self, NoMemory> {
-        TurnDone::copied(self)
-    }
-}

@@ -9,7 +9,7 @@
 //!
 //! The files: `memory` (the error that memory ran out, and copying), `text` and `seq` (newtypes that contracts see
 //! as lists), `prefix` (a prefix has no bit past its length; the order of prefixes), `value`, `entry`, `held`, `message`, `act`,
-//! `database`, `digest`, `route`, `session`, `asked`, `item` (plain data that contracts see as it is), `journal` (what
+//! `database`, `digest`, `route`, `session`, `asked`, `item` (plain data that contracts see as it is), `turn` (a turn that was done, without its item's bytes), `journal` (what
 //! computes the journal's definitions), `limits`, and the streams: `stream` (the traits), `memory_stream` (fakes that
 //! fail on request), `real_stream` (sources and sinks over std's readers and writers). But for a prefix no type here
 //! keeps a limit: `limits` tests them. `specs/ByLink.antt` and `specs/Counting.antt` have words that several crates use.
@@ -38,6 +38,7 @@ mod seq;
 mod session;
 mod stream;
 mod text;
+mod turn;
 mod value;
 
 pub use act::Act;
@@ -46,7 +47,7 @@ pub use database::{AdjDb, Adjacency, PrefixDb, PrefixEntry};
 pub use digest::DigestRow;
 pub use entry::JournalEntry;
 pub use held::Held;
-pub use item::{Item, Stamped, TurnDone};
+pub use item::{Item, Stamped};
 pub use journal::{held_keys, holds, insert_key};
 pub use kind::Kind;
 pub use limits::{
@@ -66,6 +67,7 @@ pub use seq::{Seq, copied_items};
 pub use session::SyncDone;
 pub use stream::{ReadFault, Sink, Source, WriteFault};
 pub use text::{Bytes, Key, Name, is_among};
+pub use turn::TurnDone;
 pub use value::{KvValue, Pair};
 
 /// The law of offers. After a list of offers, what is held under a key is the greatest of what was held and of

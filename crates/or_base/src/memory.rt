@@ -24,3 +24,9 @@ pub trait Copied: Drop {
     fn copied(&self) -> Result<Self, NoMemory>
         ensures { IfOk result (λ copy. copy ≡ self.now) };
 }
+
+impl Copied for u8 {
+    fn copied(&self) -> Result<u8, NoMemory> {
+        Ok(*self)
+    }
+}

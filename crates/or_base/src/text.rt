@@ -1,7 +1,9 @@
-ghost use Rattle.std.specs.Prelude.{◌≡◌, IfOk, string_bytes};
+ghost use Rattle.std.specs.Prelude.{◌≡◌, IfOk, IfSome, string_bytes};
 ghost use Rattle.or_base.specs.Names.{is_among};
 
 use crate::memory::{Copied, NoMemory};
+use crate::seq::Seq;
+use arrayvec::ArrayString;
 use std::alloc::AllocError;
 use std::cmp::Ordering;
 use std::marker::Model;
@@ -9,15 +11,15 @@ use std::marker::Model;
 /// The name of a node or of an interface: text that contracts see as its bytes.
 #[derive(Drop)]
 pub struct Name {
-    text: String,
+    text: Text,
 }
 
 impl Model for Name {
-    ghost use Rattle.std.specs.Prelude.{ℕ, List, string_bytes};
+    ghost use Rattle.std.specs.Prelude.{ℕ, List};
 
     ghost Value = { List ℕ };
 
-    ghost view = { λ name. string_bytes name.text };
+    ghost view = { λ name. name.text };
 }
 
 impl Name {
@@ -25,7 +27,9 @@ impl Name {
     pub fn from_string(text: String) -> Self
         ensures { result ≡ string_bytes text }
     {
-        Name { text }
+        Name {
+            text: Text::from_string(text),
+        }
     }
 
     /// The text.
@@ -70,15 +74,15 @@ pub fn is_among(name: &Name, names: &[Name]) -> bool
 /// The key of a value: text that contracts see as its bytes.
 #[derive(Drop)]
 pub struct Key {
-    text: String,
+    text: Text,
 }
 
 impl Model for Key {
-    ghost use Rattle.std.specs.Prelude.{ℕ, List, string_bytes};
+    ghost use Rattle.std.specs.Prelude.{ℕ, List};
 
     ghost Value = { List ℕ };
 
-    ghost view = { λ key. string_bytes key.text };
+    ghost view = { λ key. key.text };
 }
 
 impl Key {
@@ -86,7 +90,9 @@ impl Key {
     pub fn from_string(text: String) -> Self
         ensures { result ≡ string_bytes text }
     {
-        Key { text }
+        Key {
+            text: Text::from_string(text),
+        }
     }
 
     /// The text.
@@ -178,10 +184,81 @@ impl Ord for Key {
     }
 }
 
-/// Bytes of any content.
+/// Where the bytes of a text are: in place, or in memory of their own.
+#[derive(Drop)]
+enum Letters {
+    Short(ArrayString<16>),
+    Long(String),
+}
+
+/// A text that contracts see as its bytes. A short one is copied without memory.
+struct Text {
+    letters: Letters,
+}
+
+impl Model for Text {
+    ghost use Rattle.std.specs.Prelude.{ℕ, List};
+    ghost use Rattle.or_base.specs.Shared.{bytes_of};
+
+    ghost Value = { List ℕ };
+
+    ghost view = { λ text. bytes_of text.letters };
+}
+
+// Written out, so that a function that lets a name go doesn't look at where its bytes are.
+impl Drop for Text {
+    fn drop(self) {
+        let Text { letters: _ } = self;
+    }
+}
+
+impl Text {
+    fn from_string(text: String) -> Text
+        ensures { result ≡ string_bytes text }
+    {
+        let letters = match in_place(&text) {
+            Some(short) => Letters::Short(short),
+            None => Letters::Long(text),
+        };
+        Text { letters }
+    }
+
+    fn as_str(&self) -> &str
+        ensures { result.now ≡ self.now }
+    {
+        match &self.letters {
+            Letters::Short(short) => short.as_str(),
+            Letters::Long(long) => long.as_str(),
+        }
+    }
+}
+
+impl Clone for Text {
+    ghost is_clone = { λ x y. y ≡ x };
+
+    fn clone(&self) -> Result<Self, AllocError> {
+        let letters = match &self.letters {
+            Letters::Short(short) => Letters::Short(*short),
+            Letters::Long(long) => Letters::Long(long.clone()?),
+        };
+        Ok(Text { letters })
+    }
+}
+
+/// The text in place, where it is short enough.
+fn in_place(text: &str) -> Option<ArrayString<16>>
+    ensures { IfSome result (λ short. short.bytes ≡ text.now) }
+{
+    match ArrayString::from(text) {
+        Ok(short) => Some(short),
+        Err(_) => None,
+    }
+}
+
+/// Bytes of any content. Copies share them.
 #[derive(Drop)]
 pub struct Bytes {
-    bytes: Vec<u8>,
+    bytes: Seq<u8>,
 }
 
 impl Model for Bytes {
@@ -189,15 +266,17 @@ impl Model for Bytes {
 
     ghost Value = { List ℕ };
 
-    ghost view = { λ all. all.bytes.items };
+    ghost view = { λ all. all.bytes };
 }
 
 impl Bytes {
-    /// It takes no memory.
+    /// The vector's bytes. Where memory for their count runs out, each copy copies them.
     pub fn from_vec(v: Vec<u8>) -> Bytes
         ensures { result ≡ v.items }
     {
-        Bytes { bytes: v }
+        Bytes {
+            bytes: Seq::from_vec(v),
+        }
     }
 
     /// The bytes, in order.
@@ -207,11 +286,11 @@ impl Bytes {
         self.bytes.as_slice()
     }
 
-    /// The vector of the bytes. It takes no memory.
-    pub fn into_vec(self) -> Vec<u8>
-        ensures { result.items ≡ self }
+    /// The vector of the bytes. They are moved where no copy shares them, and else copied.
+    pub fn into_vec(self) -> Result<Vec<u8>, NoMemory>
+        ensures { IfOk result (λ v. v.items ≡ self) }
     {
-        self.bytes
+        self.bytes.into_vec()
     }
 
     /// Equal bytes.

@@ -3,7 +3,7 @@ use Rattle.std.proofs.Common.{[], ◌-◌, ◌^◌, drop, get_or, length, sym, a
 use Rattle.net_record.specs.World.{WorldState, turn}
 use Rattle.net_world.specs.Sound.{done_in}
 use Rattle.net_world.proofs.Acted.{clocks_weaker}
-use Rattle.net_world.proofs.Soundness.{within_waiting, taken_sound, reader_there, sound_left, sound_kept, sound_turn}
+use Rattle.net_world.proofs.Soundness.{within_waiting, taken_sound, reader_there, sound_kept, sound_turn}
 use Rattle.net_world.proofs.Weighed.{weighs_turn}
 use Rattle.net_world.proofs.Turning.{turn_empty, turn_is_made}
 use Rattle.net_world.proofs.world.World.turn.Goals as goal
@@ -13,17 +13,6 @@ returns-then-is_lane_empty c =
     let i = c.self.inside in
     let w : WorldState = record { wires = i.wiring; lanes = i.lanes; actors = i.actors.items; turns = i.turns.items; settles = i.settles.items } in
     sym c.self.view_is ∙ sym (turn_empty w c.args.lane c.args.at (search rules)) ∙ ap (λ v. turn v c.args.lane c.args.at) c.self.view_is
-
-pub invariant_of-self-in_err-item : goal.invariant_of-self-in_err-item
-invariant_of-self-in_err-item c =
-    let i = c.self.inside in
-    let w : WorldState = record { wires = i.wiring; lanes = i.lanes; actors = i.actors.items; turns = i.turns.items; settles = i.settles.items } in
-    record {
-      sound =
-          sound_left w c.args.lane c.take-taken.result (drop 1 (get_or i.lanes c.args.lane [])) c.take-taken.new.self c.reserve.new.self.items c.self.invariant.sound
-          c.take-taken.ensures.front c.take-taken.ensures.left (ap length c.reserve.ensures.items);
-      weighed = search (rules, c.self.invariant.weighed);
-    }
 
 pub act-requires-clause-there : goal.act-requires-clause-there
 act-requires-clause-there c =
@@ -76,7 +65,7 @@ invariant_of-self-in_err-deliver c =
           c.act.new.actors.items c.args.at c.in_ok-stamp.stamp c.self.invariant.sound c.take-taken.ensures.front c.take-taken.ensures.left (search rules) there (search rules)
           (search rules) (search rules) (search rules);
       weighed =
-          weighs_turn w.turns w.settles (record { lane = c.args.lane; at = c.args.at; stamp = c.in_ok-stamp.stamp; item = c.in_ok-item.item }) c.push_reserved.new.self.items i.weight
+          weighs_turn w.turns w.settles (record { lane = c.args.lane; at = c.args.at; stamp = c.in_ok-stamp.stamp; item = c.of-item.result.value }) c.push_reserved.new.self.items i.weight
           c.add_item-weight.result c.self.invariant.weighed (search rules) (search rules);
     }
 
@@ -91,7 +80,7 @@ invariant_of-self-2 c =
           c.act.new.actors.items c.args.at c.in_ok-stamp.stamp c.self.invariant.sound c.take-taken.ensures.front c.take-taken.ensures.left (search rules) there (search rules)
           (search rules) (search rules) (search rules);
       weighed =
-          weighs_turn w.turns w.settles (record { lane = c.args.lane; at = c.args.at; stamp = c.in_ok-stamp.stamp; item = c.in_ok-item.item }) c.push_reserved.new.self.items i.weight
+          weighs_turn w.turns w.settles (record { lane = c.args.lane; at = c.args.at; stamp = c.in_ok-stamp.stamp; item = c.of-item.result.value }) c.push_reserved.new.self.items i.weight
           c.add_item-weight.result c.self.invariant.weighed (search rules) (search rules);
     }
 
@@ -102,7 +91,7 @@ returns c =
     let within = within_waiting i.lanes c.args.lane (search rules) in
     let there = reader_there w c.args.lane c.reader-reader.result (record { writer = 0; port = 0; reader = 0 }) c.self.invariant.sound within (c.reader-reader.ensures (record { writer = 0; port = 0; reader = 0 })) in
     turn_is_made w c.args.lane c.args.at c.reader-reader.result (record { writer = 0; port = 0; reader = 0 }) c.take-taken.result (drop 1 (get_or i.lanes c.args.lane []))
-    c.in_ok-stamp.stamp c.in_ok-stamp.outputs.items c.in_ok-item.item c.act.new.actors.items c.take-taken.new.self c.deliver.new.lanes c.push_reserved.new.self.items
+    c.in_ok-stamp.stamp c.in_ok-stamp.outputs.items c.of-item.result.value c.act.new.actors.items c.take-taken.new.self c.deliver.new.lanes c.push_reserved.new.self.items
     (omega (arith, within, c.self.invariant.sound.wired.as_many)) (c.reader-reader.ensures (record { writer = 0; port = 0; reader = 0 })) c.take-taken.ensures.front there (search rules) (search rules) (search rules)
     (search rules) c.take-taken.ensures.left (search rules) (search rules)
     ∙ ap (λ v. turn v c.args.lane c.args.at) c.self.view_is
