@@ -175,6 +175,9 @@ parts_stay seen (says.Turn turn) p h = turn_stays seen turn p h
 pub stays_sound : (seen : Seen) (s : Statement) → is_sound_so_far seen ≡ true → admits seen s ≡ true → is_sound_so_far (with_line seen s) ≡ true
 stays_sound seen s sound admitted = whole_of (with_line seen s) (parts_stay seen s (parts_of seen sound) admitted)
 
+pub sound_more : (seen after : Seen) (s : Statement) → is_sound_so_far seen ≡ true → admits seen s ≡ true → after ≡ with_line seen s → is_sound_so_far after ≡ true
+sound_more seen after s sound admitted same = ap is_sound_so_far same ∙ stays_sound seen s sound admitted
+
 -- ---- the settle at the end
 
 -- the last of some commands is a settle

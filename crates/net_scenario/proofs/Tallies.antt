@@ -10,7 +10,7 @@ use Rattle.std.specs.Str.{bytes_eq}
 use Rattle.net_laboratory.specs.Scenario.{is_declared}
 use Rattle.net_scenario.specs.Tallied.{names_of}
 use Rattle.net_scenario.specs.Seen.{nothing_seen, is_sound_so_far}
-use Rattle.net_scenario.proofs.Soundness.{stays_sound}
+use Rattle.net_scenario.proofs.Soundness.{stays_sound, sound_more}
 use Rattle.or_base.specs.Names.{is_among}
 use Rattle.net_laboratory.specs.Amounts.{record_keys, with_record_keys, with_key, keys_in, with_owner, owners_in, with_offer, offers_in, is_settle, settle_count, settles_in, ends_in_settle, after_tick, last_tick}
 
@@ -105,4 +105,4 @@ pub among_names : (nodes : List NodeDecl) (name : List ℕ) → is_among name (n
 among_names [] name = refl
 among_names (node ∷ nodes) name = ap₂ (λ here later. here || later) (bytes_same name node.name) (among_names nodes name)
 
-pub ruleset one_more = (keys_more, owners_more, offers_more, settles_more, few_settles, end_more, tick_more, stays_sound)
+pub ruleset one_more = (keys_more, owners_more, offers_more, settles_more, few_settles, end_more, tick_more, stays_sound, sound_more)

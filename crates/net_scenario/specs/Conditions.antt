@@ -9,7 +9,6 @@ use Rattle.net_fields.specs.declared.form.Form.{Form}
 use Rattle.net_fields.specs.declared.form.Form.TheVariants as form
 use Rattle.net_fields.specs.declared.word.Word.{Word}
 use Rattle.net_fields.specs.declared.word.Word.TheVariants as word
-use Rattle.net_fields.specs.Word.{is_for_full}
 use Rattle.net_fields.specs.Forms.{is_text_with, as_natural}
 use Rattle.net_fields.specs.Members.{text_at, text_or, number_or, prefix_at}
 use Rattle.net_fields.specs.Objects.{has_field_that, has_other_member, has_unfit_field, is_contradictory}

@@ -27,6 +27,15 @@ is_late line = nat_lt most_scenario_bytes line.end
 unfoldable pub is_too_long : Line → Word → Data → Bool
 is_too_long line w d = nat_lt most_line_bytes (length line.text) || is_late line || has_long_field w d
 
+-- what is asked of the texts of a line and of its place, as the conditions below
+abbrev pub text_and_place_conditions : Seen → Bool → Line → List (FaultKind × (Word → Data → Bool))
+text_and_place_conditions seen turns line =
+    (fault.TooLong, is_too_long line)
+    ∷ (fault.BadPrefix, has_bad_prefix)
+    ∷ (fault.BadScript, has_bad_script)
+    ∷ (fault.WrongKind, λ w d. is_misplaced seen turns w)
+    ∷ []
+
 -- The conditions on a line that is an object d and names the command w. `turns` says whether turn lines may stand.
 abbrev pub command_conditions : Seen → Bool → Line → List (FaultKind × (Word → Data → Bool))
 command_conditions seen turns line =
@@ -36,11 +45,7 @@ command_conditions seen turns line =
     ∷ (fault.RepeatedName, is_repeated seen)
     ∷ (fault.TwoOwners, has_two_owners seen)
     ∷ (fault.TooMany, is_too_many seen)
-    ∷ (fault.TooLong, is_too_long line)
-    ∷ (fault.BadPrefix, has_bad_prefix)
-    ∷ (fault.BadScript, has_bad_script)
-    ∷ (fault.WrongKind, λ w d. is_misplaced seen turns w)
-    ∷ []
+    ∷ text_and_place_conditions seen turns line
 
 -- a condition on the command that an object names; a line that can't be read so far doesn't meet it
 abbrev pub on_command : (Word → Data → Bool) → Option Data → Bool
@@ -84,6 +89,10 @@ object_line seen turns line d = outcome (first_fault (drop 2 (conditions seen tu
 -- of a line that is the object d and names the command w: its fault
 unfoldable pub command_fault : Seen → Bool → Line → Word → Data → Option FaultKind
 command_fault seen turns line w d = first_fault (map (λ row. (row.0, row.1 w d)) (command_conditions seen turns line))
+
+-- the fault of its texts or its place
+unfoldable pub text_or_place_fault : Seen → Bool → Line → Word → Data → Option FaultKind
+text_or_place_fault seen turns line w d = first_fault (map (λ row. (row.0, row.1 w d)) (text_and_place_conditions seen turns line))
 
 -- and its fault, or what it says
 unfoldable pub command_line : Seen → Bool → Line → Word → Data → Result Statement FaultKind

@@ -2,7 +2,7 @@
 
 ghost use Rattle.std.specs.Prelude.{◌≡◌, true, IfOk};
 ghost use Rattle.serde_json.specs.View.{view};
-ghost use Rattle.net_scenario.specs.Faults.{is_late, is_too_long, command_fault, command_line, object_line, line_of};
+ghost use Rattle.net_scenario.specs.Faults.{is_late, is_too_long, text_or_place_fault, command_fault, command_line, object_line, line_of};
 ghost use Rattle.net_scenario.specs.Gives.{Gives};
 ghost use Rattle.net_scenario.specs.Seen.{admits};
 ghost use Rattle.net_scenario.specs.Tallied.{seen_in, line_at, IsTallied};
@@ -50,8 +50,33 @@ fn is_too_long(line: &LineRead<'_>, word: Word, object: &Value) -> bool
     line.text.len() > MOST_LINE_BYTES || line.is_late() || has_long_field(word, object)
 }
 
+/// The fault that the texts of a line or its place have; of several, the one with the lowest number.
+#[tactic(auto, unfolding(crate::specs::Faults::text_or_place_fault))]
+fn text_or_place_fault(
+    draft: &Draft,
+    line: &LineRead<'_>,
+    word: Word,
+    object: &Value,
+) -> Option<FaultKind>
+    ensures { result ≡ text_or_place_fault (seen_in draft.now) line.now.turns (line_at line.now) word (view object.now) }
+{
+    if is_too_long(line, word, object) {
+        return Some(FaultKind::TooLong);
+    }
+    if has_bad_prefix(word, object) {
+        return Some(FaultKind::BadPrefix);
+    }
+    if has_bad_script(word, object) {
+        return Some(FaultKind::BadScript);
+    }
+    if is_misplaced(draft, line.turns, word) {
+        return Some(FaultKind::WrongKind);
+    }
+    None
+}
+
 /// The fault with the lowest number of a line that is this object and names this command.
-#[tactic(auto, unfolding(crate::specs::Faults::command_fault))]
+#[tactic(auto, unfolding(crate::specs::Faults::command_fault, crate::specs::Faults::text_or_place_fault))]
 fn fault_of(
     alloc: Global,
     draft: &Draft,
@@ -80,19 +105,7 @@ fn fault_of(
     if is_too_many(alloc, draft, word, object)? {
         return Ok(Some(FaultKind::TooMany));
     }
-    if is_too_long(line, word, object) {
-        return Ok(Some(FaultKind::TooLong));
-    }
-    if has_bad_prefix(word, object) {
-        return Ok(Some(FaultKind::BadPrefix));
-    }
-    if has_bad_script(word, object) {
-        return Ok(Some(FaultKind::BadScript));
-    }
-    if is_misplaced(draft, line.turns, word) {
-        return Ok(Some(FaultKind::WrongKind));
-    }
-    Ok(None)
+    Ok(text_or_place_fault(draft, line, word, object))
 }
 
 /// Reads a line that is this object and names this command.

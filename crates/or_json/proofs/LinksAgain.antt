@@ -1,21 +1,23 @@
 -- The text of a link record has that record as its reading.
-use Rattle.std.proofs.Common.{◌≡◌, ℕ, ◌-◌, ◌^◌, ◌<◌, ◌≤◌, true, List, [], ◌∷◌, Some, option_map, option_and_then, refl, ap, ◌∙◌, arith, codes}
+use Rattle.std.proofs.Common.{◌≡◌, ℕ, ◌-◌, ◌^◌, ◌<◌, ◌≤◌, true, Some, option_and_then, refl, ap, ◌∙◌, arith, codes}
 use Rattle.std.specs.List.{list_all}
 use Rattle.std.proofs.lemmas.Bool.{and_parts}
 use Rattle.std.proofs.lemmas.Bool.Decides.{nat_tests}
 use Rattle.json.specs.Tree as tree
 use Rattle.json.proofs.Printed.Utf8.{IsUtf8-are_ascii}
-use Rattle.serde_json.specs.Data.{unsigned, boolean, number, string, array, object, Data, Items, no_items, item, no_members, member}
-use Rattle.serde_json.specs.Read.{of_json, of_items, max_depth}
-use Rattle.serde_json.specs.Written.{outline, items_outline}
+use Rattle.serde_json.specs.Data.{unsigned, boolean, number, string, array, object, Data, no_members, member}
+use Rattle.serde_json.specs.Read.{of_json, max_depth}
+use Rattle.serde_json.specs.Written.{outline}
 use Rattle.serde_json.proofs.Numbers.{number_of-decimal}
-use Rattle.or_base.specs.Limits.{is_between, is_node_name, is_interface_name}
+use Rattle.or_base.specs.Limits.{is_between, is_node_name, is_interface_name, most_adjacencies}
 use Rattle.or_base.specs.declared.database.Adjacency.{Adjacency}
 use Rattle.or_base.specs.declared.database.AdjDb.{AdjDb}
-use Rattle.or_json.specs.Writing.{adjacency_data, adjacencies_data, adj_data, adj_text}
-use Rattle.or_json.specs.Reading.{adjacency_of, adjacencies_of, keep_adjacencies_limits, adj_db_of, adj_of, keeps_adjacency_limits, is_link_record}
+use Rattle.or_json.specs.Items.{items_data, keep_limits}
+use Rattle.or_json.specs.Writing.{adjacency_data, adj_data, adj_text}
+use Rattle.or_json.specs.Reading.{adjacency_of, have_same_interface, adj_db_of, adj_of, keeps_adjacency_limits, is_link_record}
 use Rattle.or_json.proofs.Ascii.{node_name_utf8, interface_name_utf8}
-use Rattle.or_json.proofs.Simple.{IsSimple, AreSimple, json_in_text}
+use Rattle.or_json.proofs.Simple.{IsSimple, json_in_text}
+use Rattle.or_json.proofs.ItemsAgain.{IsReadAgain, items_say, items_again, items_simple, items_shallow}
 
 -- what the limits of an adjacency are
 record Within (a : Adjacency) : Type 0 where
@@ -45,14 +47,10 @@ adjacency_read a =
     (member (codes "other_if") (string a.other_if)
     (member (codes "overload") (boolean a.overload) no_members)))))
 
-adjacencies_read : List Adjacency → Items
-adjacencies_read [] = no_items
-adjacencies_read (a ∷ adjacencies) = item (adjacency_read a) (adjacencies_read adjacencies)
-
 adj_read : AdjDb → Data
 adj_read db =
     object
-    (member (codes "adjacencies") (array (adjacencies_read db.adjacencies))
+    (member (codes "adjacencies") (array (items_data adjacency_read db.adjacencies))
     (member (codes "node") (string db.node)
     (member (codes "overload") (boolean db.overload) no_members)))
 
@@ -60,28 +58,11 @@ adjacency_says : (a : Adjacency) → Within a → of_json (outline (adjacency_da
 unfolding adjacency_data adjacency_read
 adjacency_says a w = rw (number_of-decimal a.metric (metric_fits a.metric w.metric)) refl
 
-adjacencies_say : (adjs : List Adjacency) → list_all keeps_adjacency_limits adjs ≡ true → of_items (items_outline (adjacencies_data adjs)) ≡ Some (adjacencies_read adjs)
-unfolding adjacencies_read
-adjacencies_say [] all = refl
-adjacencies_say (a ∷ adjs) all =
-    let parts = and_parts _ _ all in
-    ap (option_and_then (λ d. option_map (item d) (of_items (items_outline (adjacencies_data adjs))))) (adjacency_says a (within a parts.0))
-    ∙ ap (option_map (item (adjacency_read a))) (adjacencies_say adjs parts.1)
-
 -- ---- what is read of them
 
 adjacency_again : (a : Adjacency) → Within a → adjacency_of (adjacency_read a) ≡ Some a
 unfolding adjacency_of adjacency_read
 adjacency_again a w = rw (w.other, w.own_if, w.other_if, w.metric) refl
-
-adjacencies_again : (adjs : List Adjacency) → list_all keeps_adjacency_limits adjs ≡ true → adjacencies_of (adjacencies_read adjs) ≡ Some adjs
-unfolding adjacencies_read
-adjacencies_again [] all = refl
-adjacencies_again (a ∷ adjs) all =
-    let parts = and_parts _ _ all in
-    rw (adjacency_again a (within a parts.0)) (rw (adjacencies_again adjs parts.1) refl)
-
--- ---- the whole record
 
 adjacency_simple : (a : Adjacency) → Within a → IsSimple (adjacency_data a)
 unfolding adjacency_data
@@ -103,29 +84,29 @@ adjacency_simple a w = (
   ),
 )
 
-adjacencies_simple : (adjs : List Adjacency) → list_all keeps_adjacency_limits adjs ≡ true → AreSimple (adjacencies_data adjs)
-adjacencies_simple [] all = tt
-adjacencies_simple (a ∷ adjs) all =
-    let parts = and_parts _ _ all in
-    (adjacency_simple a (within a parts.0), adjacencies_simple adjs parts.1)
-
 adjacency_depth : (a : Adjacency) → tree.depth (outline (adjacency_data a)) ≤ 1
 unfolding adjacency_data
 adjacency_depth a = omega arith
 
-adjacencies_depth : (adjs : List Adjacency) → tree.items_depth (items_outline (adjacencies_data adjs)) ≤ 1
-adjacencies_depth [] = omega arith
-adjacencies_depth (a ∷ adjs) = omega (arith, adjacency_depth a, adjacencies_depth adjs)
+adjacencies_again : IsReadAgain adjacency_data adjacency_read adjacency_of keeps_adjacency_limits
+adjacencies_again = record {
+  says = λ a is. adjacency_says a (within a is);
+  reads = λ a is. adjacency_again a (within a is);
+  simple = λ a is. adjacency_simple a (within a is);
+  shallow = adjacency_depth;
+}
+
+-- ---- the whole record
 
 adj_depth : (db : AdjDb) → tree.depth (outline (adj_data db)) ≤ max_depth
 unfolding adj_data
-adj_depth db = omega (arith, adjacencies_depth db.adjacencies)
+adj_depth db = omega (arith, items_shallow adjacencies_again db.adjacencies)
 
 -- the limits of a record
 record Link (db : AdjDb) : Type 0 where
   node : is_node_name db.node ≡ true
   each : list_all keeps_adjacency_limits db.adjacencies ≡ true
-  all : keep_adjacencies_limits db.adjacencies ≡ true
+  all : keep_limits have_same_interface most_adjacencies db.adjacencies ≡ true
 
 link : (db : AdjDb) → is_link_record db ≡ true → Link db
 unfolding is_link_record
@@ -142,17 +123,17 @@ adj_simple db l = (
   (
     IsUtf8-are_ascii _ refl,
     tt,
-    (IsUtf8-are_ascii _ refl, adjacencies_simple db.adjacencies l.each, tt),
+    (IsUtf8-are_ascii _ refl, items_simple adjacencies_again db.adjacencies l.each, tt),
   ),
 )
 
 adj_says : (db : AdjDb) → Link db → of_json (outline (adj_data db)) ≡ Some (adj_read db)
 unfolding adj_data adj_read
-adj_says db l = rw (adjacencies_say db.adjacencies l.each) refl
+adj_says db l = rw (items_say adjacencies_again db.adjacencies l.each) refl
 
 adj_db_again : (db : AdjDb) → Link db → adj_db_of (adj_read db) ≡ Some db
 unfolding adj_db_of adj_read
-adj_db_again db l = rw (l.node, adjacencies_again db.adjacencies l.each) (rw l.all refl)
+adj_db_again db l = rw (l.node, items_again adjacencies_again db.adjacencies l.each) (rw l.all refl)
 
 pub link_again : (db : AdjDb) → is_link_record db ≡ true → adj_of (adj_text db) ≡ Some db
 link_again db is =

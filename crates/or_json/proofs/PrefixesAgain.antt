@@ -1,23 +1,25 @@
 -- The text of a prefix has that prefix as its reading, and the text of a prefix record has that record.
-use Rattle.std.proofs.Common.{◌≡◌, ℕ, ◌-◌, ◌^◌, ◌<◌, ◌≤◌, true, List, [], ◌∷◌, Some, refl, ap, ◌∙◌, arith, leb-true, le-leb, codes}
+use Rattle.std.proofs.Common.{◌≡◌, ℕ, ◌-◌, ◌^◌, ◌<◌, ◌≤◌, true, Some, refl, ap, ◌∙◌, arith, leb-true, le-leb, codes}
 use Rattle.std.specs.List.{list_all}
-use Rattle.std.specs.Option.{option_map, option_and_then}
+use Rattle.std.specs.Option.{option_and_then}
 use Rattle.std.proofs.lemmas.Bool.{and_parts, and_from}
 use Rattle.json.specs.Tree as tree
 use Rattle.json.proofs.Printed.Utf8.{IsUtf8-are_ascii}
-use Rattle.serde_json.specs.Data.{unsigned, number, string, array, object, Data, Items, no_items, item, no_members, member}
-use Rattle.serde_json.specs.Read.{of_json, of_items, max_depth}
-use Rattle.serde_json.specs.Written.{outline, items_outline}
+use Rattle.serde_json.specs.Data.{unsigned, number, string, array, object, Data, no_members, member}
+use Rattle.serde_json.specs.Read.{of_json, max_depth}
+use Rattle.serde_json.specs.Written.{outline}
 use Rattle.serde_json.proofs.Numbers.{number_of-decimal}
-use Rattle.or_base.specs.Limits.{is_between, is_node_name}
+use Rattle.or_base.specs.Limits.{is_between, is_node_name, most_prefix_entries}
 use Rattle.or_base.specs.declared.database.PrefixEntry.{PrefixEntry}
 use Rattle.or_base.specs.declared.database.PrefixDb.{PrefixDb}
 use Rattle.or_prefix.specs.Printing.{prefix_text}
-use Rattle.or_json.specs.Writing.{entry_data, entries_data, prefixes_data, prefixes_text}
-use Rattle.or_json.specs.Reading.{prefix_entry_read, prefix_entries_read, keep_entries_limits, prefix_db_of, prefixes_of, keeps_entry_limits, is_prefix_record}
+use Rattle.or_json.specs.Items.{items_data, keep_limits}
+use Rattle.or_json.specs.Writing.{entry_data, prefixes_data, prefixes_text}
+use Rattle.or_json.specs.Reading.{entry_of, have_same_prefix, prefix_db_of, prefixes_of, keeps_entry_limits, is_prefix_record}
 use Rattle.or_prefix.proofs.PrintedPrefixes.{prefix_again}
 use Rattle.or_json.proofs.Ascii.{node_name_utf8, prefix_utf8}
-use Rattle.or_json.proofs.Simple.{IsSimple, AreSimple, json_in_text}
+use Rattle.or_json.proofs.Simple.{IsSimple, json_in_text}
+use Rattle.or_json.proofs.ItemsAgain.{IsReadAgain, items_say, items_again, items_simple, items_shallow}
 
 -- ---- the entries
 
@@ -44,12 +46,8 @@ entry_read e =
     (member (codes "prefix") (string (prefix_text e.prefix.v6 e.prefix.bits e.prefix.len))
     (member (codes "source") (number (unsigned e.source)) no_members))))
 
-entries_read : List PrefixEntry → Items
-entries_read [] = no_items
-entries_read (e ∷ entries) = item (entry_read e) (entries_read entries)
-
 prefixes_read : PrefixDb → Data
-prefixes_read db = object (member (codes "entries") (array (entries_read db.entries)) (member (codes "node") (string db.node) no_members))
+prefixes_read db = object (member (codes "entries") (array (items_data entry_read db.entries)) (member (codes "node") (string db.node) no_members))
 
 entry_says : (e : PrefixEntry) → Within e → of_json (outline (entry_data e)) ≡ Some (entry_read e)
 unfolding entry_data entry_read
@@ -59,25 +57,10 @@ entry_says e w =
     let distance : e.distance < 2 ^ 64 = omega (arith, w.distance) in
     rw (number_of-decimal e.path path) (rw (number_of-decimal e.source source) (rw (number_of-decimal e.distance distance) refl))
 
-entries_say : (entries : List PrefixEntry) → list_all keeps_entry_limits entries ≡ true → of_items (items_outline (entries_data entries)) ≡ Some (entries_read entries)
-unfolding entries_read
-entries_say [] all = refl
-entries_say (e ∷ entries) all =
-    let parts = and_parts _ _ all in
-    ap (option_and_then (λ d. option_map (item d) (of_items (items_outline (entries_data entries))))) (entry_says e (within e parts.0))
-    ∙ ap (option_map (item (entry_read e))) (entries_say entries parts.1)
-
-entry_again : (e : PrefixEntry) → Within e → prefix_entry_read (entry_read e) ≡ Some e
-unfolding prefix_entry_read entry_read
+entry_again : (e : PrefixEntry) → Within e → entry_of (entry_read e) ≡ Some e
+unfolding entry_of entry_read
 entry_again e w =
     rw (prefix_again e.prefix) (rw (between e.path w.path) (rw (between e.source w.source) (rw (between e.distance w.distance) refl)))
-
-entries_again : (entries : List PrefixEntry) → list_all keeps_entry_limits entries ≡ true → prefix_entries_read (entries_read entries) ≡ Some entries
-unfolding entries_read
-entries_again [] all = refl
-entries_again (e ∷ entries) all =
-    let parts = and_parts _ _ all in
-    rw (entry_again e (within e parts.0)) (rw (entries_again entries parts.1) refl)
 
 entry_simple : (e : PrefixEntry) → Within e → IsSimple (entry_data e)
 unfolding entry_data
@@ -94,30 +77,28 @@ entry_simple e w =
       ),
     )
 
-entries_simple : (entries : List PrefixEntry) → list_all keeps_entry_limits entries ≡ true → AreSimple (entries_data entries)
-entries_simple [] all = tt
-entries_simple (e ∷ entries) all =
-    let parts = and_parts _ _ all in
-    (entry_simple e (within e parts.0), entries_simple entries parts.1)
-
 entry_depth : (e : PrefixEntry) → tree.depth (outline (entry_data e)) ≤ 1
 unfolding entry_data
 entry_depth e = omega arith
 
-entries_depth : (entries : List PrefixEntry) → tree.items_depth (items_outline (entries_data entries)) ≤ 1
-entries_depth [] = omega arith
-entries_depth (e ∷ entries) = omega (arith, entry_depth e, entries_depth entries)
+entries_again : IsReadAgain entry_data entry_read entry_of keeps_entry_limits
+entries_again = record {
+  says = λ e is. entry_says e (within e is);
+  reads = λ e is. entry_again e (within e is);
+  simple = λ e is. entry_simple e (within e is);
+  shallow = entry_depth;
+}
 
 -- ---- the whole record
 
 prefixes_depth : (db : PrefixDb) → tree.depth (outline (prefixes_data db)) ≤ max_depth
 unfolding prefixes_data
-prefixes_depth db = omega (arith, entries_depth db.entries)
+prefixes_depth db = omega (arith, items_shallow entries_again db.entries)
 
 record Limits (db : PrefixDb) : Type 0 where
   node : is_node_name db.node ≡ true
   each : list_all keeps_entry_limits db.entries ≡ true
-  all : keep_entries_limits db.entries ≡ true
+  all : keep_limits have_same_prefix most_prefix_entries db.entries ≡ true
 
 limits : (db : PrefixDb) → is_prefix_record db ≡ true → Limits db
 unfolding is_prefix_record
@@ -128,15 +109,15 @@ limits db is =
 
 prefixes_simple : (db : PrefixDb) → Limits db → IsSimple (prefixes_data db)
 unfolding prefixes_data
-prefixes_simple db l = (IsUtf8-are_ascii _ refl, node_name_utf8 db.node l.node, (IsUtf8-are_ascii _ refl, entries_simple db.entries l.each, tt))
+prefixes_simple db l = (IsUtf8-are_ascii _ refl, node_name_utf8 db.node l.node, (IsUtf8-are_ascii _ refl, items_simple entries_again db.entries l.each, tt))
 
 prefixes_say : (db : PrefixDb) → Limits db → of_json (outline (prefixes_data db)) ≡ Some (prefixes_read db)
 unfolding prefixes_data prefixes_read
-prefixes_say db l = rw (entries_say db.entries l.each) refl
+prefixes_say db l = rw (items_say entries_again db.entries l.each) refl
 
 prefix_db_again : (db : PrefixDb) → Limits db → prefix_db_of (prefixes_read db) ≡ Some db
 unfolding prefix_db_of prefixes_read
-prefix_db_again db l = rw (l.node, entries_again db.entries l.each) (rw l.all refl)
+prefix_db_again db l = rw (l.node, items_again entries_again db.entries l.each) (rw l.all refl)
 
 pub prefixes_again : (db : PrefixDb) → is_prefix_record db ≡ true → prefixes_of (prefixes_text db) ≡ Some db
 prefixes_again db is =

@@ -1,3 +1,4 @@
+pub mod Items
 pub mod Writing
 pub mod Reading
 pub mod Appended

@@ -1,8 +1,8 @@
 -- The readings of record texts. Members may be in any order, and members that aren't named here are ignored.
-use Rattle.std.specs.Prelude.{ℕ, List, [], ◌∷◌, length, Bool, true, ◌&&◌, not, nat_le, codes, if◌then◌else◌, Option, Some, None, option_and_then}
-use Rattle.std.specs.List.{list_all, list_any}
+use Rattle.std.specs.Prelude.{ℕ, List, Bool, ◌&&◌, nat_le, codes, if◌then◌else◌, Option, Some, None, option_and_then}
+use Rattle.std.specs.List.{list_all}
 use Rattle.std.specs.Str.{bytes_eq, is_utf8}
-use Rattle.serde_json.specs.Data.{Data, Items, no_items, item}
+use Rattle.serde_json.specs.Data.{Data, Items}
 use Rattle.serde_json.specs.Read.{read}
 use Rattle.serde_json.specs.Find.{get, as_bool, as_number, as_str, as_array, as_u64}
 use Rattle.or_base.specs.Limits.{is_between, is_node_name, is_interface_name, most_adjacencies, most_metric, most_preference, most_prefix_entries}
@@ -13,11 +13,7 @@ use Rattle.or_base.specs.declared.database.AdjDb.{AdjDb}
 use Rattle.or_base.specs.declared.database.PrefixEntry.{PrefixEntry}
 use Rattle.or_base.specs.declared.database.PrefixDb.{PrefixDb}
 use Rattle.or_prefix.specs.Reading.{prefix_of}
-
--- the next step, where there is something
-infixl 10 ◌>>=◌
-abbrev pub ◌>>=◌ : {A B : Type 0} → Option A → (A → Option B) → Option B
-found >>= next = option_and_then next found
+use Rattle.or_json.specs.Items.{◌>>=◌, items_of, keep_limits}
 
 -- what passes a test
 abbrev pub if_passes : {A : Type 0} → (A → Bool) → Option A → Option A
@@ -48,33 +44,16 @@ adjacency_of d = do
   overload ← flag_member (codes "overload") d
   Some (record { other = other; own_if = own_if; other_if = other_if; metric = metric; overload = overload })
 
--- the readings of all items
-abbrev pub adjacencies_of : Items → Option (List Adjacency)
-adjacencies_of no_items = Some []
-adjacencies_of (item d ds) = do
-  adjacency ← adjacency_of d
-  adjacencies ← adjacencies_of ds
-  Some (adjacency ∷ adjacencies)
-
--- one of them is over this interface
-abbrev pub has_own_interface : List Adjacency → List ℕ → Bool
-has_own_interface adjacencies interface = list_any (λ a. bytes_eq a.own_if interface) adjacencies
-
--- no interface is named twice
-abbrev pub have_distinct_interfaces : List Adjacency → Bool
-have_distinct_interfaces [] = true
-have_distinct_interfaces (a ∷ adjacencies) = not (has_own_interface adjacencies a.own_if) && have_distinct_interfaces adjacencies
-
--- no more adjacencies than the limit, over distinct interfaces
-abbrev pub keep_adjacencies_limits : List Adjacency → Bool
-keep_adjacencies_limits adjacencies = nat_le (length adjacencies) most_adjacencies && have_distinct_interfaces adjacencies
+-- they are over the same interface of the node
+abbrev pub have_same_interface : Adjacency → Adjacency → Bool
+have_same_interface a b = bytes_eq a.own_if b.own_if
 
 unfoldable pub adj_db_of : Data → Option AdjDb
 adj_db_of d = do
   node ← text_member is_node_name (codes "node") d
   overload ← flag_member (codes "overload") d
   items ← items_member (codes "adjacencies") d
-  adjacencies ← if_passes keep_adjacencies_limits (adjacencies_of items)
+  adjacencies ← if_passes (keep_limits have_same_interface most_adjacencies) (items_of adjacency_of items)
   Some (record { node = node; overload = overload; adjacencies = adjacencies })
 
 -- the JSON value that a text is
@@ -89,39 +68,23 @@ adj_of text = option_and_then adj_db_of (json_in text)
 abbrev pub prefix_member : List ℕ → Data → Option Prefix
 prefix_member name d = option_and_then prefix_of (option_and_then as_str (get name d))
 
-unfoldable pub prefix_entry_read : Data → Option PrefixEntry
-prefix_entry_read d = do
+unfoldable pub entry_of : Data → Option PrefixEntry
+entry_of d = do
   prefix ← prefix_member (codes "prefix") d
   path ← number_member 0 most_preference (codes "path") d
   source ← number_member 0 most_preference (codes "source") d
   distance ← number_member 0 most_preference (codes "distance") d
   Some (record { prefix = prefix; path = path; source = source; distance = distance })
 
-abbrev pub prefix_entries_read : Items → Option (List PrefixEntry)
-prefix_entries_read no_items = Some []
-prefix_entries_read (item d ds) = do
-  entry ← prefix_entry_read d
-  entries ← prefix_entries_read ds
-  Some (entry ∷ entries)
-
--- the prefix of one of them
-abbrev pub has_prefix : List PrefixEntry → Prefix → Bool
-has_prefix entries prefix = list_any (λ e. is_same_prefix e.prefix prefix) entries
-
--- no prefix is there twice, however it is written
-abbrev pub have_distinct_prefixes : List PrefixEntry → Bool
-have_distinct_prefixes [] = true
-have_distinct_prefixes (e ∷ entries) = not (has_prefix entries e.prefix) && have_distinct_prefixes entries
-
--- no more entries than the limit, of distinct prefixes
-abbrev pub keep_entries_limits : List PrefixEntry → Bool
-keep_entries_limits entries = nat_le (length entries) most_prefix_entries && have_distinct_prefixes entries
+-- they have the same prefix, however it is written
+abbrev pub have_same_prefix : PrefixEntry → PrefixEntry → Bool
+have_same_prefix a b = is_same_prefix a.prefix b.prefix
 
 unfoldable pub prefix_db_of : Data → Option PrefixDb
 prefix_db_of d = do
   node ← text_member is_node_name (codes "node") d
   items ← items_member (codes "entries") d
-  entries ← if_passes keep_entries_limits (prefix_entries_read items)
+  entries ← if_passes (keep_limits have_same_prefix most_prefix_entries) (items_of entry_of items)
   Some (record { node = node; entries = entries })
 
 -- the prefix record that a text is
@@ -135,14 +98,14 @@ abbrev pub keeps_adjacency_limits : Adjacency → Bool
 keeps_adjacency_limits a =
     is_node_name a.other && is_interface_name a.own_if && is_interface_name a.other_if && is_between 1 most_metric a.metric
 
--- the record keeps the limits
+-- the record keeps the limits, and its adjacencies are over distinct interfaces
 unfoldable pub is_link_record : AdjDb → Bool
-is_link_record db = is_node_name db.node && list_all keeps_adjacency_limits db.adjacencies && keep_adjacencies_limits db.adjacencies
+is_link_record db = is_node_name db.node && list_all keeps_adjacency_limits db.adjacencies && keep_limits have_same_interface most_adjacencies db.adjacencies
 
 -- the numbers keep the limit
 abbrev pub keeps_entry_limits : PrefixEntry → Bool
 keeps_entry_limits e = nat_le e.path most_preference && nat_le e.source most_preference && nat_le e.distance most_preference
 
--- the record keeps the limits
+-- the record keeps the limits, and its entries are of distinct prefixes
 unfoldable pub is_prefix_record : PrefixDb → Bool
-is_prefix_record db = is_node_name db.node && list_all keeps_entry_limits db.entries && keep_entries_limits db.entries
+is_prefix_record db = is_node_name db.node && list_all keeps_entry_limits db.entries && keep_limits have_same_prefix most_prefix_entries db.entries

@@ -1,12 +1,13 @@
 -- The texts of records: JSON (RFC 8259) without spaces, the members in this order.
-use Rattle.std.specs.Prelude.{ℕ, List, [], ◌∷◌, codes}
-use Rattle.serde_json.specs.Data.{Data, unsigned, boolean, number, string, array, object, Items, no_items, item, no_members, member}
+use Rattle.std.specs.Prelude.{ℕ, List, codes}
+use Rattle.serde_json.specs.Data.{Data, unsigned, boolean, number, string, array, object, no_members, member}
 use Rattle.serde_json.specs.Written.{compact_text}
 use Rattle.or_base.specs.declared.database.Adjacency.{Adjacency}
 use Rattle.or_base.specs.declared.database.AdjDb.{AdjDb}
 use Rattle.or_base.specs.declared.database.PrefixEntry.{PrefixEntry}
 use Rattle.or_base.specs.declared.database.PrefixDb.{PrefixDb}
 use Rattle.or_prefix.specs.Printing.{prefix_text}
+use Rattle.or_json.specs.Items.{items_data}
 
 -- {"other":<node>,"if":<own interface>,"other_if":<its interface>,"metric":<metric>,"overload":<overload>}
 unfoldable pub adjacency_data : Adjacency → Data
@@ -18,17 +19,13 @@ adjacency_data a =
     (member (codes "metric") (number (unsigned a.metric))
     (member (codes "overload") (boolean a.overload) no_members)))))
 
-abbrev pub adjacencies_data : List Adjacency → Items
-adjacencies_data [] = no_items
-adjacencies_data (a ∷ adjacencies) = item (adjacency_data a) (adjacencies_data adjacencies)
-
 -- {"node":<node>,"overload":<overload>,"adjacencies":[..]}
 unfoldable pub adj_data : AdjDb → Data
 adj_data db =
     object
     (member (codes "node") (string db.node)
     (member (codes "overload") (boolean db.overload)
-    (member (codes "adjacencies") (array (adjacencies_data db.adjacencies)) no_members)))
+    (member (codes "adjacencies") (array (items_data adjacency_data db.adjacencies)) no_members)))
 
 -- the text of a link record
 abbrev pub adj_text : AdjDb → List ℕ
@@ -43,14 +40,10 @@ entry_data e =
     (member (codes "source") (number (unsigned e.source))
     (member (codes "distance") (number (unsigned e.distance)) no_members))))
 
-abbrev pub entries_data : List PrefixEntry → Items
-entries_data [] = no_items
-entries_data (e ∷ entries) = item (entry_data e) (entries_data entries)
-
 -- {"node":<node>,"entries":[..]}
 unfoldable pub prefixes_data : PrefixDb → Data
 prefixes_data db =
-    object (member (codes "node") (string db.node) (member (codes "entries") (array (entries_data db.entries)) no_members))
+    object (member (codes "node") (string db.node) (member (codes "entries") (array (items_data entry_data db.entries)) no_members))
 
 -- the text of a prefix record
 abbrev pub prefixes_text : PrefixDb → List ℕ

@@ -1,44 +1,19 @@
 ghost use Rattle.std.specs.Prelude.{◌≡◌, ◌++◌, IfOk, IsTrue, OnOk, Some};
-ghost use Rattle.json.specs.Tree.{json_tokens, items_tokens};
-ghost use Rattle.serde_json.specs.Written.{outline, items_outline};
+ghost use Rattle.json.specs.Tree.{json_tokens};
+ghost use Rattle.serde_json.specs.Written.{outline};
 ghost use Rattle.or_json.specs.Appended.{Appends};
-ghost use Rattle.or_json.specs.Writing.{adjacency_data, adjacencies_data, adj_data, adj_text};
+ghost use Rattle.or_json.specs.Writing.{adj_data, adj_text};
 ghost use Rattle.or_json.specs.Reading.{adj_of, is_link_record};
 
-use crate::member::{write_flag, write_number, write_text};
+use crate::items::write_items;
+use crate::member::{write_flag, write_text};
 use json::Writer;
-use or_base::{AdjDb, Adjacency, Bytes, NoMemory};
+use or_base::{AdjDb, Bytes, NoMemory};
 use std::alloc::Global;
-
-/// Appends an adjacency.
-#[tactic(auto, unfolding(crate::specs::Writing::adjacency_data))]
-fn write_adjacency(out: &mut Writer, adjacency: &Adjacency) -> Result<(), NoMemory>
-    ensures { OnOk result (Appends out.old out.new (json_tokens (outline (adjacency_data adjacency.now)))) }
-{
-    out.begin_object()?;
-    write_text(out, "other", adjacency.other.as_str())?;
-    write_text(out, "if", adjacency.own_if.as_str())?;
-    write_text(out, "other_if", adjacency.other_if.as_str())?;
-    write_number(out, "metric", adjacency.metric)?;
-    write_flag(out, "overload", adjacency.overload)?;
-    out.end_object()?;
-    Ok(())
-}
-
-/// Appends the adjacencies and the end of their list.
-fn write_adjacencies(out: &mut Writer, adjacencies: &[Adjacency]) -> Result<(), NoMemory>
-    ensures { OnOk result (Appends out.old out.new (items_tokens (items_outline (adjacencies_data adjacencies.now)))) }
-{
-    for adjacency in adjacencies {
-        write_adjacency(out, adjacency)?;
-    }
-    out.end_array()?;
-    Ok(())
-}
 
 /// Appends a link record.
 #[tactic(auto, unfolding(crate::specs::Writing::adj_data))]
-fn write_adj_db(out: &mut Writer, db: &AdjDb) -> Result<(), NoMemory>
+fn write_adj_db(alloc: Global, out: &mut Writer, db: &AdjDb) -> Result<(), NoMemory>
     ensures { OnOk result (Appends out.old out.new (json_tokens (outline (adj_data db.now)))) }
 {
     out.begin_object()?;
@@ -46,7 +21,7 @@ fn write_adj_db(out: &mut Writer, db: &AdjDb) -> Result<(), NoMemory>
     write_flag(out, "overload", db.overload)?;
     out.key("adjacencies")?;
     out.begin_array()?;
-    write_adjacencies(out, db.adjacencies.as_slice())?;
+    write_items(alloc, out, db.adjacencies.as_slice())?;
     out.end_object()?;
     Ok(())
 }
@@ -58,6 +33,6 @@ pub fn adj_text(alloc: Global, db: &AdjDb) -> Result<Bytes, NoMemory>
     ensures read_again { IsTrue (is_link_record db.now) → adj_of (adj_text db.now) ≡ Some db.now }
 {
     let mut out = Writer::new(Vec::new(alloc));
-    write_adj_db(&mut out, db)?;
+    write_adj_db(alloc, &mut out, db)?;
     Ok(Bytes::from_vec(out.into_inner()))
 }

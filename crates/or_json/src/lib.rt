@@ -5,15 +5,19 @@
 //! ignored (`specs/Reading.antt`). The functions write exactly that text and give exactly that reading, None included,
 //! and the text of a record that keeps the limits has that record as its reading.
 //!
-//! The files: `member` (single members, written by the writer of `json`, which keeps their order), `adj_write` and
-//! `prefix_write`, `object` (single members, read), `adj_read` and `prefix_read`. That a text is read again is proved
-//! over the definitions, in `proofs/LinksAgain.antt` and `proofs/PrefixesAgain.antt`.
+//! The files: `member` (single members, written by the writer of `json`, which keeps their order), `object` (single
+//! members, read), `items` (the list of items that a record has, over the trait `RecordItem`), `adjacency` and
+//! `prefix_entry` (the two kinds of items), `adj_write`, `prefix_write`, `adj_read` and `prefix_read`. That a text is
+//! read again is proved over the definitions, in `proofs/ItemsAgain.antt`, `LinksAgain.antt` and `PrefixesAgain.antt`.
 #![tactic(auto)]
 
 mod adj_read;
 mod adj_write;
+mod adjacency;
+mod items;
 mod member;
 mod object;
+mod prefix_entry;
 mod prefix_read;
 mod prefix_write;
 

@@ -5,7 +5,7 @@ pub mod GroupSteps
 pub mod Joins
 pub mod Doubles
 pub mod Shifts
-pub mod Forms
+pub mod PartsFound
 pub mod Runs
 pub mod Lengths
 pub mod PrintedCuts

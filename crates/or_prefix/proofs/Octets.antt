@@ -4,7 +4,7 @@ use Rattle.std.specs.List.{list_all, list_any}
 use Rattle.std.specs.Option.{option_map}
 use Rattle.std.proofs.lemmas.Bool.{and_left, and_right, eqb-true}
 use Rattle.std.proofs.lemmas.Bool.Decides.{nat_tests}
-use Rattle.or_prefix.specs.Reading.{Form, pieces, with_byte_before, is_digit, is_short_decimal, decimal_value, is_octet, v4_address, has_colon, address_of, form_from}
+use Rattle.or_prefix.specs.Reading.{AddressAndLength, pieces, with_byte_before, is_digit, is_short_decimal, decimal_value, is_octet, v4_address, has_colon, address_of, address_and_length_from}
 
 abbrev has : ℕ → List ℕ → Bool
 has separator text = list_any (λ b. b == separator) text
@@ -112,24 +112,24 @@ v4_three a b c = refl
 
 pub ruleset v4_steps = (v4_parts, v4_one, v4_two, v4_three)
 
-form : List ℕ → List ℕ → Option Form
-form address len = option_map (λ bits. record { v6 = has_colon address; bits = bits; len = decimal_value len }) (address_of address)
+two_parts_of : List ℕ → List ℕ → Option AddressAndLength
+two_parts_of address len = option_map (λ bits. record { v6 = has_colon address; bits = bits; len = decimal_value len }) (address_of address)
 
-form_more : (address : List ℕ) (others : List (List ℕ)) → 2 ≤ length others → form_from (address ∷ others) ≡ None
-form_more address [] many = absurd (omega arith)
-form_more address (len ∷ []) many = absurd (omega arith)
-form_more address (len ∷ other ∷ others) many = refl
+too_many_parts : (address : List ℕ) (others : List (List ℕ)) → 2 ≤ length others → address_and_length_from (address ∷ others) ≡ None
+too_many_parts address [] many = absurd (omega arith)
+too_many_parts address (len ∷ []) many = absurd (omega arith)
+too_many_parts address (len ∷ other ∷ others) many = refl
 
-form_if : (address len : List ℕ) (test : Bool) → has 47 len ≡ test
-    → form_from (address ∷ pieces 47 len) ≡ cond (is_short_decimal len) (form address len) None
-unfolding form
-form_if address len true is =
-    form_more address (pieces 47 len) (two_pieces 47 len is)
-    ∙ sym (ap (λ t. cond t (form address len) None) (not_short 47 len refl is))
-form_if address len false is = ap (λ ps. form_from (address ∷ ps)) (one_piece 47 len is)
+two_parts_if : (address len : List ℕ) (test : Bool) → has 47 len ≡ test
+    → address_and_length_from (address ∷ pieces 47 len) ≡ cond (is_short_decimal len) (two_parts_of address len) None
+unfolding two_parts_of
+two_parts_if address len true is =
+    too_many_parts address (pieces 47 len) (two_pieces 47 len is)
+    ∙ sym (ap (λ t. cond t (two_parts_of address len) None) (not_short 47 len refl is))
+two_parts_if address len false is = ap (λ ps. address_and_length_from (address ∷ ps)) (one_piece 47 len is)
 
 -- the length is all that is left
-pub form_parts : (address len : List ℕ) → form_from (address ∷ pieces 47 len)
+pub two_parts : (address len : List ℕ) → address_and_length_from (address ∷ pieces 47 len)
     ≡ cond (is_short_decimal len) (option_map (λ bits. record { v6 = has_colon address; bits = bits; len = decimal_value len }) (address_of address)) None
-unfolding form
-form_parts address len = form_if address len (has 47 len) refl
+unfolding two_parts_of
+two_parts address len = two_parts_if address len (has 47 len) refl

@@ -10,7 +10,7 @@ use Rattle.or_prefix.specs.declared.fault.PrefixFault.{PrefixFault}
 use Rattle.or_prefix.specs.declared.fault.PrefixFault.TheVariants.{BadForm, BadLength, HostBits}
 
 -- an address and a length, of which nothing more is known
-pub record Form : Type 0 where
+pub record AddressAndLength : Type 0 where
   pub v6 : Bool
   pub bits : ℕ
   pub len : ℕ
@@ -109,25 +109,25 @@ has_colon text = list_any (λ b. b == 58) text
 abbrev pub address_of : List ℕ → Option ℕ
 address_of text = if has_colon text then v6_address text else v4_address (pieces 46 text)
 
-abbrev pub form_from : List (List ℕ) → Option Form
-form_from [] = None
-form_from (address ∷ []) = None
-form_from (address ∷ len ∷ []) =
+abbrev pub address_and_length_from : List (List ℕ) → Option AddressAndLength
+address_and_length_from [] = None
+address_and_length_from (address ∷ []) = None
+address_and_length_from (address ∷ len ∷ []) =
     if is_short_decimal len
     then option_map (λ bits. record { v6 = has_colon address; bits = bits; len = decimal_value len }) (address_of address) else None
-form_from (address ∷ len ∷ more ∷ rest) = None
+address_and_length_from (address ∷ len ∷ more ∷ rest) = None
 
--- what a prefix text says, if it has the form of one
-unfoldable pub form_of : List ℕ → Option Form
-form_of text = form_from (pieces 47 text)
+-- the address and the length that a text says, if it has the form of a prefix
+unfoldable pub address_and_length_of : List ℕ → Option AddressAndLength
+address_and_length_of text = address_and_length_from (pieces 47 text)
 
 -- why what a text says is no prefix: the first of these that holds
-abbrev pub fault_of : Option Form → Option PrefixFault
+abbrev pub fault_of : Option AddressAndLength → Option PrefixFault
 fault_of None = Some BadForm
-fault_of (Some form) =
-    if nat_lt (address_bits form.v6) form.len then Some BadLength
-    else (if form.bits % 2 ^ (address_bits form.v6 - form.len) == 0 then None else Some HostBits)
+fault_of (Some found) =
+    if nat_lt (address_bits found.v6) found.len then Some BadLength
+    else (if found.bits % 2 ^ (address_bits found.v6 - found.len) == 0 then None else Some HostBits)
 
 -- the prefix that a text says, if it says one
 unfoldable pub prefix_of : List ℕ → Option Prefix
-prefix_of text = option_and_then (λ form. prefix_from form.v6 form.bits form.len) (form_of text)
+prefix_of text = option_and_then (λ found. prefix_from found.v6 found.bits found.len) (address_and_length_of text)

@@ -4,7 +4,7 @@ use Rattle.or_base.specs.declared.prefix.Prefix.{Prefix}
 use Rattle.or_prefix.specs.declared.fault.PrefixFault.{PrefixFault}
 use Rattle.or_prefix.specs.declared.address.Address.{Address}
 use Rattle.or_prefix.specs.declared.groups.Groups.{Groups}
-use Rattle.or_prefix.specs.Reading.{Form}
+use Rattle.or_prefix.specs.Reading.{AddressAndLength}
 
 -- the fault of a read
 abbrev pub fault_in : Result Prefix PrefixFault → Option PrefixFault
@@ -16,9 +16,9 @@ abbrev pub prefix_in : Result Prefix PrefixFault → Option Prefix
 prefix_in (Ok prefix) = Some prefix
 prefix_in (Err fault) = None
 
--- an address and a length, as the form that a text has
-abbrev pub form_as : Address × ℕ → Form
-form_as form = record { v6 = form.0.v6; bits = form.0.bits; len = form.1 }
+-- an address and a length that were read, as what a text says
+abbrev pub address_and_length_as : Address × ℕ → AddressAndLength
+address_and_length_as read = record { v6 = read.0.v6; bits = read.0.bits; len = read.1 }
 
 -- the number that groups of an IPv6 address make
 abbrev pub groups_value : List ℕ → ℕ

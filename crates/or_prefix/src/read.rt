@@ -1,7 +1,7 @@
 ghost use Rattle.std.specs.Prelude.{◌≡◌, Some, IfOk, IfSome};
 ghost use Rattle.std.specs.Option.{option_map};
-ghost use Rattle.or_prefix.specs.Reading.{address_of, fault_of, form_of, has_colon, prefix_of};
-ghost use Rattle.or_prefix.specs.Steps.{fault_in, prefix_in, form_as};
+ghost use Rattle.or_prefix.specs.Reading.{address_of, fault_of, address_and_length_of, has_colon, prefix_of};
+ghost use Rattle.or_prefix.specs.Steps.{fault_in, prefix_in, address_and_length_as};
 
 use crate::address::Address;
 use crate::decimal::read_short_decimal;
@@ -32,9 +32,9 @@ fn read_address(text: &[u8]) -> Option<Address>
 }
 
 /// The address and the length that a text says. None where it hasn't the form of a prefix.
-#[tactic(auto, unfolding(crate::specs::Reading::form_of), using(crate::proofs::Octets::form_parts))]
-fn read_form(text: &[u8]) -> Option<(Address, u16)>
-    ensures { option_map form_as result ≡ form_of text.now }
+#[tactic(auto, unfolding(crate::specs::Reading::address_and_length_of), using(crate::proofs::Octets::two_parts))]
+fn address_and_length_of(text: &[u8]) -> Option<(Address, u16)>
+    ensures { option_map address_and_length_as result ≡ address_and_length_of text.now }
 {
     let (address, len) = cut(b'/', text)?;
     let len = read_short_decimal(len)?;
@@ -46,10 +46,10 @@ fn read_form(text: &[u8]) -> Option<(Address, u16)>
 #[tactic(auto, unfolding(crate::specs::Reading::prefix_of), using(crate::proofs::Lengths::long_is_none))]
 pub fn read_prefix(text: &[u8]) -> Result<Prefix, PrefixFault>
     ensures prefix { prefix_in result ≡ prefix_of text.now }
-    ensures fault { fault_in result ≡ fault_of (form_of text.now) }
-    ensures ok { IfOk result (λ p. form_of text.now ≡ Some (record { v6 = p.v6; bits = p.bits; len = p.len })) }
+    ensures fault { fault_in result ≡ fault_of (address_and_length_of text.now) }
+    ensures ok { IfOk result (λ p. address_and_length_of text.now ≡ Some (record { v6 = p.v6; bits = p.bits; len = p.len })) }
 {
-    let Some((address, len)) = read_form(text) else {
+    let Some((address, len)) = address_and_length_of(text) else {
         return Err(PrefixFault::BadForm);
     };
     let width = if address.v6 { 128 } else { 32 };
