@@ -24,7 +24,9 @@ use Rattle.or_timer.proofs.Entries.{at_itself, lookup_with, lookup_without, orde
 use Rattle.kv_value.specs.Hashing.{hash_of}
 use Rattle.kv_table.specs.declared.slot.Slot.{Slot}
 use Rattle.kv_table.proofs.Found.{some_same}
-use Rattle.kv_table.specs.Slots.{merged_by, merged_at, slot_in, slot_reads, held_reads, AreSlotsOf, AreDeadlinesOf, IsKeptFor, deadline_from, deadlines_with}
+use Rattle.kv_table.proofs.Indexes.{index_merged, index_expired, index_cleared, index_of_none}
+use Rattle.kv_table.specs.Index.{merged_by, merged_at, IsIndexOf}
+use Rattle.kv_table.specs.Slots.{slot_in, slot_reads, held_reads, AreSlotsOf, AreDeadlinesOf, IsKeptFor, deadline_from, deadlines_with}
 
 -- ---- places of a longer journal
 
@@ -53,29 +55,8 @@ still_told journal later (Some s) (Some h) e =
     let hash : s.hash ≡ hash_of h.0 = ap (λ t. t.1) told in
     ap (λ m. Some (m, s.hash)) (still_merged journal later s.place h at) ∙ ap (λ n. Some (Some h, n)) hash
 
--- ---- a key's slot becomes this one, or goes
-
-abbrev HasSlot : List (List ℕ × Slot) → List (List ℕ × Slot) → List ℕ → Option Slot → Type 0
-HasSlot slots after key slot = (other : List ℕ) → slot_in after other ≡ cond (is_at (bytes_cmp key) other) slot (slot_in slots other)
-
-told_if : (journal : List JournalEntry) (here : Bool) (new old : Option Slot) (held new_held : Option (KvValue × ℕ)) → option_map (slot_reads journal) new ≡ option_map held_reads new_held
-    → option_map (slot_reads journal) old ≡ option_map held_reads held → option_map (slot_reads journal) (cond here new old) ≡ option_map held_reads (cond here new_held held)
-told_if journal true new old held new_held e f = e
-told_if journal false new old held new_held e f = f
-
-slots_changed : (journal : List JournalEntry) (entry : JournalEntry) (slots after : List (List ℕ × Slot)) (key : List ℕ) (new : Option Slot) (held : Option (KvValue × ℕ))
-    → AreSlotsOf journal slots → IsStrictlySortedBy bytes_cmp (keys_of after) → HasSlot slots after key new
-    → ((other : List ℕ) → latest (entry ∷ reverse journal) other ≡ cond (bytes_eq key other) held (holds journal other))
-    → option_map (slot_reads (journal ++ entry ∷ [])) new ≡ option_map held_reads held → AreSlotsOf (journal ++ entry ∷ []) after
-slots_changed journal entry slots after key new held kept ordered has newest tells = record {
-  ordered = ordered;
-  tell = λ other.
-      let longer = journal ++ entry ∷ [] in
-      ap (option_map (slot_reads longer)) (has other)
-      ∙ told_if longer (is_at (bytes_cmp key) other) new (slot_in slots other) (holds journal other) held tells
-      (still_told journal (entry ∷ []) (slot_in slots other) (holds journal other) (kept.tell other))
-      ∙ ap (option_map held_reads) (ap (λ t. cond t held (holds journal other)) (is_eq-slice_cmp key other) ∙ sym (newest other) ∙ sym (holds_push journal entry other));
-}
+still_slots : (journal later : List JournalEntry) (slots : List (List ℕ × Slot)) → AreSlotsOf journal slots → IsIndexOf (slot_reads (journal ++ later)) held_reads journal slots
+still_slots journal later slots kept = record { ordered = kept.ordered; tell = λ key. still_told journal later (slot_in slots key) (holds journal key) (kept.tell key) }
 
 -- ---- a key's deadline becomes this one, or goes
 
@@ -121,12 +102,9 @@ kept_merged journal slots after deadlines later pair now origin slot kept place 
     let entry : JournalEntry = Merged pair now origin in
     let here : merged_at (journal ++ entry ∷ []) slot.place ≡ Some (pair.value, now) =
     ap (merged_at (journal ++ entry ∷ [])) place ∙ ap (λ e. option_and_then merged_by e) (last_place journal entry) in
-    let tells : option_map (slot_reads (journal ++ entry ∷ [])) (Some slot) ≡ option_map held_reads (Some (pair.value, now)) =
-    ap (λ m. Some (m, slot.hash)) here ∙ ap (λ n. Some (Some (pair.value, now), n)) hash in
-    rw (put, set) (record {
-      of_keys =
-          slots_changed journal entry slots (insert_entry bytes_cmp slots pair.key slot) pair.key (Some slot) (Some (pair.value, now)) kept.of_keys
-          (ordered_with pair.key slot slots kept.of_keys.ordered) (λ other. lookup_with pair.key slot other slots) (λ other. refl) tells;
+    let told : slot_reads (journal ++ entry ∷ []) slot ≡ held_reads (pair.value, now) = ap (λ m. (m, slot.hash)) here ∙ ap (λ n. (Some (pair.value, now), n)) hash in
+    rw set (record {
+      of_keys = index_merged (slot_reads (journal ++ entry ∷ [])) held_reads journal slots after pair now origin slot (still_slots journal (entry ∷ []) slots kept.of_keys) told put;
       of_lifetimes =
           deadlines_changed journal entry deadlines (deadlines_with deadlines pair.key (deadline_from now pair.value.ttl)) pair.key (Some (pair.value, now)) kept.of_lifetimes
           (ordered_deadlines deadlines pair.key (deadline_from now pair.value.ttl) kept.of_lifetimes.ordered)
@@ -136,19 +114,18 @@ kept_merged journal slots after deadlines later pair now origin slot kept place 
 pub slots_expired : (journal : List JournalEntry) (slots after : List (List ℕ × Slot)) (key : List ℕ) (now : ℕ) → AreSlotsOf journal slots
     → after ≡ remove_entry (is_at (bytes_cmp key)) slots → AreSlotsOf (journal ++ Expired key now ∷ []) after
 slots_expired journal slots after key now kept taken =
-    rw taken (slots_changed journal (Expired key now) slots (remove_entry (is_at (bytes_cmp key)) slots) key None None kept
-    (ordered_without (is_at (bytes_cmp key)) slots kept.ordered) (λ other. lookup_without key other slots kept.ordered) (λ other. refl) refl)
+    index_expired (slot_reads (journal ++ Expired key now ∷ [])) held_reads journal slots after key now (still_slots journal (Expired key now ∷ []) slots kept) taken
 
 pub kept_cleared : (journal : List JournalEntry) (now : ℕ) → IsKeptFor (journal ++ Cleared now ∷ []) [] []
 unfolding IsStrictlySortedBy
 kept_cleared journal now = record {
-  of_keys = record { ordered = tt; tell = λ key. ap (option_map held_reads) (sym (holds_push journal (Cleared now) key)) };
+  of_keys = index_cleared (slot_reads (journal ++ Cleared now ∷ [])) held_reads journal now;
   of_lifetimes = record { ordered = tt; same = λ key. ap lost_at (sym (holds_push journal (Cleared now) key)) };
 }
 
 pub kept_for_none : IsKeptFor [] [] []
 unfolding IsStrictlySortedBy
-kept_for_none = record { of_keys = record { ordered = tt; tell = λ key. refl }; of_lifetimes = record { ordered = tt; same = λ key. refl } }
+kept_for_none = record { of_keys = index_of_none (slot_reads []) held_reads; of_lifetimes = record { ordered = tt; same = λ key. refl } }
 
 -- ---- a key with no slot has no deadline, so a deadline that was set can be taken back
 

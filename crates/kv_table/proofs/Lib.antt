@@ -1,4 +1,5 @@
 pub mod Changes
 pub mod Expiring
 pub mod Found
+pub mod Indexes
 pub mod Rows

@@ -1,5 +1,6 @@
 pub mod Offered
 pub mod Expiry
+pub mod Index
 pub mod Slots
 pub mod Sending
 pub mod Digest

@@ -14,16 +14,7 @@ use Rattle.or_timer.specs.Deadlines.{AreInKeyOrder, deadline_in, with_deadline, 
 use Rattle.kv_value.specs.Hashing.{hash_of}
 use Rattle.kv_table.specs.declared.slot.Slot.{Slot}
 use Rattle.kv_table.specs.Expiry.{deadline_of}
-
--- what an entry merged, and when
-abbrev pub merged_by : JournalEntry → Option (KvValue × ℕ)
-merged_by (Merged pair at origin) = Some (pair.value, at)
-merged_by (Expired key at) = None
-merged_by (Cleared at) = None
-
--- what the entry at a place of the journal merged
-abbrev pub merged_at : List JournalEntry → ℕ → Option (KvValue × ℕ)
-merged_at journal place = option_and_then merged_by (slice_get journal place)
+use Rattle.kv_table.specs.Index.{merged_at, IsIndexOf}
 
 -- the slot of a key, if it has one
 abbrev pub slot_in : List (List ℕ × Slot) → List ℕ → Option Slot
@@ -42,9 +33,8 @@ abbrev pub with_hash : KvValue × ℕ → KvValue × ℕ
 with_hash held = (held.0, hash_of held.0)
 
 -- exactly the held keys have a slot, and each slot has the place and the hash of what is held
-pub record AreSlotsOf (journal : List JournalEntry) (slots : List (List ℕ × Slot)) : Type 0 where
-  pub ordered : IsStrictlySortedBy bytes_cmp (keys_of slots)
-  pub tell : (key : List ℕ) → option_map (slot_reads journal) (slot_in slots key) ≡ option_map held_reads (holds journal key)
+abbrev pub AreSlotsOf : List JournalEntry → List (List ℕ × Slot) → Type 0
+AreSlotsOf journal slots = IsIndexOf (slot_reads journal) held_reads journal slots
 
 -- exactly the held keys with a lifetime have a deadline, and it is theirs
 pub record AreDeadlinesOf (journal : List JournalEntry) (deadlines : List (List ℕ × ℕ)) : Type 0 where

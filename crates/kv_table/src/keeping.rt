@@ -4,7 +4,8 @@ ghost use Rattle.std.specs.BTreeMap.{insert_entry};
 ghost use Rattle.std.specs.declared.option.Option.TheVariants.{None};
 ghost use Rattle.or_base.specs.Order.{bytes_cmp};
 ghost use Rattle.or_timer.specs.Deadlines.{deadline_in, with_deadline, without_deadline};
-ghost use Rattle.kv_table.specs.Slots.{merged_at, slot_in, deadline_from, deadlines_with};
+ghost use Rattle.kv_table.specs.Index.{merged_at};
+ghost use Rattle.kv_table.specs.Slots.{slot_in, deadline_from, deadlines_with};
 
 use crate::slot::Slot;
 use or_base::{Held, JournalEntry, Key, NoMemory};
@@ -12,7 +13,7 @@ use or_timer::Wheel;
 use std::collections::BTreeMap;
 
 /// What the entry at a place of the journal merged, if it merged something.
-pub(crate) fn merged_at(journal: &[JournalEntry], place: usize) -> Option<Held<'_>>
+pub fn merged_at(journal: &[JournalEntry], place: usize) -> Option<Held<'_>>
     ensures { option_map (λ held. (held.value.now, held.merged_at)) result ≡ merged_at journal.now place }
 {
     match journal.get(place)? {

@@ -12,17 +12,24 @@
 //! hashes nothing. The promise is that `get` is `holds` and `offer` is `offer` of or_base, to the entry; the law that the
 //! greatest value offered is held follows from or_base's `offers_hold_greatest`.
 //!
-//! The files: `digest` (what the table tells of itself), `keeping` (what is kept beside the journal as it changes),
-//! `offered` (what becomes of an offer), `sending` (what is sent of keys), `slot` (plain data), `table`.
+//! A `HeldIndex` is the same for a reader of a journal: it takes the journal's entries, and tells for each key that these
+//! hold the place of its merge. Slots and places are both indexes of a journal (`IsIndexOf`, `specs/Index.antt`).
+//!
+//! The files: `digest` (what the table tells of itself), `index` (what the first entries of a journal hold), `keeping`
+//! (what is kept beside the journal as it changes), `offered` (what becomes of an offer), `sending` (what is sent of
+//! keys), `slot` (plain data), `table`.
 #![tactic(auto)]
 
 mod digest;
+mod index;
 mod keeping;
 mod offered;
 mod sending;
 mod slot;
 mod table;
 
+pub use index::HeldIndex;
+pub use keeping::merged_at;
 pub use offered::Offered;
 pub use or_base::Held;
 pub use table::KvTable;

@@ -64,6 +64,13 @@ impl KvTable {
         self.entries.as_slice()
     }
 
+    /// Every change of the table, as a vector. It takes no memory.
+    pub fn into_journal(self) -> Vec<JournalEntry>
+        ensures { result.items ≡ self }
+    {
+        self.entries
+    }
+
     /// What is held under the key. It takes no memory.
     pub fn get(&self, key: &Key) -> Option<Held<'_>>
         ensures { option_map (λ held. (held.value.now, held.merged_at)) result ≡ holds self.now key.now }

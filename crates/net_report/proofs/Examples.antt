@@ -7,7 +7,7 @@ use Rattle.or_base.specs.declared.asked.Told.TheVariants as told
 use Rattle.or_base.specs.declared.entry.JournalEntry.{JournalEntry}
 use Rattle.or_base.specs.declared.entry.JournalEntry.TheVariants.{Merged}
 use Rattle.or_base.specs.declared.item.Item.TheVariants.{Restart}
-use Rattle.or_base.specs.declared.item.TurnDone.{TurnDone}
+use Rattle.or_base.specs.TurnDone.{TurnDone}
 use Rattle.or_base.specs.declared.kind.Kind.{Kind}
 use Rattle.or_base.specs.declared.kind.Kind.TheVariants as kind
 use Rattle.or_base.specs.declared.origin.Origin.TheVariants.{Local}

@@ -1,4 +1,4 @@
-pub mod Stores
+pub mod Places
 pub mod Examples
 pub mod Parts
 pub mod Hops

@@ -8,7 +8,7 @@ use Rattle.or_base.specs.declared.asked.Asked.TheVariants as asked
 use Rattle.or_base.specs.declared.asked.Told.{Told}
 use Rattle.or_base.specs.declared.asked.Told.TheVariants as told
 use Rattle.or_base.specs.declared.entry.JournalEntry.{JournalEntry}
-use Rattle.or_base.specs.declared.item.TurnDone.{TurnDone}
+use Rattle.or_base.specs.TurnDone.{TurnDone}
 use Rattle.or_base.specs.declared.kind.Kind.{Kind}
 use Rattle.or_base.specs.declared.kind.Kind.TheVariants as kind
 use Rattle.or_base.specs.declared.prefix.Prefix.{Prefix}

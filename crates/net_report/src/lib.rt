@@ -8,8 +8,9 @@
 //! or_prefix prints them.
 //!
 //! The files: `written` (what is a line), `lines` (the single lines of settles, stores and turns), `routes` (those of
-//! routes), `answers` (those of answers), `text` (what they make up). Each function appends to one text, so the report costs what it writes and,
-//! for each key, a scan of the node's journal.
+//! routes), `answers` (those of answers), `stores` (the stores of the nodes at a settle), `text` (what they make up). Each
+//! function appends to one text. A store's journal has an index that grows from settle to settle, so the report costs what it
+//! writes and, over all settles, one look-up for each entry of a journal.
 #![tactic(auto)]
 
 ghost use Rattle.std.specs.Prelude.{◌≡◌, IfOk};
@@ -18,6 +19,7 @@ ghost use Rattle.net_report.specs.Report.{report};
 mod answers;
 mod lines;
 mod routes;
+mod stores;
 mod text;
 mod written;
 

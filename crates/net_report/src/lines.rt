@@ -128,8 +128,8 @@ impl ReportLine for TurnDone {
     ghost line = { turn_line };
 
     fn write_line(&self, out: &mut String) -> Result<(), NoMemory> {
-        text_and_number(out, "{\"do\":\"turn\",\"lane\":", u64::from(self.lane))?;
-        text_and_number(out, ",\"at\":", self.at)?;
+        text_and_number(out, "{\"do\":\"turn\",\"lane\":", u64::from(self.lane()))?;
+        text_and_number(out, ",\"at\":", self.at())?;
         out.push_str("}\n")?;
         Ok(())
     }

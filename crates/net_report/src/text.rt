@@ -1,61 +1,17 @@
-//! What the lines make up: the stores and the routes of the nodes at a settle, and the settles of a run.
+//! What the lines make up: the routes of the nodes at a settle, and the settles of a run.
 
 ghost use Rattle.std.specs.Prelude.{◌≡◌, ◌++◌, OnOk, string_bytes};
-ghost use Rattle.net_report.specs.Report.{held_lines, node_routes_text, phase_text, routes_text, settle_text, settles_text, shown_text, shows_routes, shows_stores, store_text, stores_text, trace_text, turns_of_phase};
+ghost use Rattle.net_report.specs.Report.{node_routes_text, phase_text, routes_text, settle_text, settles_text, shown_text, shows_routes, shows_stores, trace_text, turns_of_phase};
+ghost use Rattle.net_report.specs.Indexes.{journals_of};
 
-use crate::lines::{key_line, settle_line, store_line};
+use crate::lines::settle_line;
 use crate::routes::{fib_line, routes_line};
+use crate::stores::{indexes_of, stores_text};
 use crate::written::write_lines;
+use kv_table::HeldIndex;
 use net_laboratory::{Command, Kind, NodeDecl, Scenario, Show};
 use net_record::{NodeMark, Record, SettleDone};
-use or_base::{JournalEntry, Name, NoMemory, Seq, TurnDone, held_keys, holds};
-
-/// A line for each key that the journal holds, in byte order.
-fn held_lines(out: &mut String, journal: &[JournalEntry], moment: u64) -> Result<(), NoMemory>
-    ensures { OnOk result (string_bytes out.new ≡ string_bytes out.old ++ held_lines journal.now moment) }
-{
-    for key in held_keys(*out.allocator(), journal)? {
-        if let Some(held) = holds(journal, &key) {
-            key_line(out, &key, held.value, held.merged_at, moment)?;
-        }
-    }
-    Ok(())
-}
-
-/// A node's store at a settle: what the first entries of its journal hold, as many as it had then, and the full syncs
-/// that it started and that were finished in the phase.
-#[tactic(auto, unfolding(crate::specs::Report::store_text))]
-fn store_text(
-    out: &mut String,
-    node: &Name,
-    journal: &[JournalEntry],
-    mark: &NodeMark,
-    moment: u64,
-) -> Result<(), NoMemory>
-    ensures { OnOk result (string_bytes out.new ≡ string_bytes out.old ++ store_text node.now journal.now mark.now moment) }
-{
-    store_line(out, node, mark)?;
-    let count = mark.entries.min(journal.len() as u64) as usize;
-    held_lines(out, &journal[..count], moment)?;
-    write_lines(out, mark.syncs.as_slice())?;
-    Ok(())
-}
-
-/// The stores of the nodes, in order.
-fn stores_text(
-    out: &mut String,
-    nodes: &[NodeDecl],
-    journals: &[Seq<JournalEntry>],
-    marks: &[NodeMark],
-    moment: u64,
-) -> Result<(), NoMemory>
-    ensures { OnOk result (string_bytes out.new ≡ string_bytes out.old ++ stores_text nodes.now journals.now marks.now moment) }
-{
-    for ((node, journal), mark) in nodes.iter().zip(journals).zip(marks) {
-        store_text(out, &node.name, journal.as_slice(), mark, moment)?;
-    }
-    Ok(())
-}
+use or_base::{Name, NoMemory, TurnDone};
 
 /// A node's routes at a settle, and how its forwarding agent stands.
 #[tactic(auto, unfolding(crate::specs::Report::node_routes_text))]
@@ -105,13 +61,14 @@ fn shown_text(
     kind: Kind,
     show: Show,
     nodes: &[NodeDecl],
-    journals: &[Seq<JournalEntry>],
+    indexes: &mut Vec<HeldIndex<'_>>,
     settle: &SettleDone,
 ) -> Result<(), NoMemory>
-    ensures { OnOk result (string_bytes out.new ≡ string_bytes out.old ++ shown_text kind show nodes.now journals.now settle.now) }
+    ensures text { OnOk result (string_bytes out.new ≡ string_bytes out.old ++ shown_text kind show nodes.now (journals_of indexes.old.items) settle.now) }
+    ensures journals { journals_of indexes.new.items ≡ journals_of indexes.old.items }
 {
     if shows_stores(show) {
-        stores_text(out, nodes, journals, settle.nodes.as_slice(), settle.moment)?;
+        stores_text(out, nodes, indexes, settle.nodes.as_slice(), settle.moment)?;
     }
     if shows_routes(kind, show) {
         routes_text(out, nodes, settle.nodes.as_slice())?;
@@ -127,14 +84,15 @@ fn settle_text(
     kind: Kind,
     show: Show,
     nodes: &[NodeDecl],
-    journals: &[Seq<JournalEntry>],
+    indexes: &mut Vec<HeldIndex<'_>>,
     settle: &SettleDone,
 ) -> Result<(), NoMemory>
-    ensures { OnOk result (string_bytes out.new ≡ string_bytes out.old ++ settle_text k kind show nodes.now journals.now settle.now) }
+    ensures text { OnOk result (string_bytes out.new ≡ string_bytes out.old ++ settle_text k kind show nodes.now (journals_of indexes.old.items) settle.now) }
+    ensures journals { journals_of indexes.new.items ≡ journals_of indexes.old.items }
 {
     settle_line(out, k, settle.moment)?;
     write_lines(out, settle.answers.as_slice())?;
-    shown_text(out, kind, show, nodes, journals, settle)?;
+    shown_text(out, kind, show, nodes, indexes, settle)?;
     Ok(())
 }
 
@@ -162,6 +120,7 @@ fn turns_of_phase(turns: &[TurnDone], before: u64, at_settle: u64) -> &[TurnDone
 fn phase_text(
     out: &mut String,
     done: &Record,
+    indexes: &mut Vec<HeldIndex<'_>>,
     scenario: &Scenario,
     trace: bool,
     k: u64,
@@ -169,21 +128,15 @@ fn phase_text(
     before: u64,
     settle: &SettleDone,
 ) -> Result<(), NoMemory>
-    ensures { OnOk result (string_bytes out.new ≡ string_bytes out.old
+    requires { journals_of indexes.old.items ≡ done.now.journals }
+    ensures text { OnOk result (string_bytes out.new ≡ string_bytes out.old
         ++ phase_text done.now scenario.now trace (k, record { show = show; before = before; settle = settle.now })) }
+    ensures journals { journals_of indexes.new.items ≡ journals_of indexes.old.items }
 {
     let turns = turns_of_phase(done.turns.as_slice(), before, settle.turns);
     trace_text(out, trace, turns)?;
     let nodes = scenario.nodes.as_slice();
-    settle_text(
-        out,
-        k,
-        scenario.kind,
-        show,
-        nodes,
-        done.journals.as_slice(),
-        settle,
-    )?;
+    settle_text(out, k, scenario.kind, show, nodes, indexes, settle)?;
     Ok(())
 }
 
@@ -197,6 +150,7 @@ pub(crate) fn settles_text(
 ) -> Result<(), NoMemory>
     ensures { OnOk result (string_bytes out.new ≡ string_bytes out.old ++ settles_text done.now scenario.now trace) }
 {
+    let mut indexes = indexes_of(*out.allocator(), done.journals.as_slice())?;
     let mut k = 1;
     let mut before = 0;
     let mut left = done.settles.as_slice();
@@ -205,7 +159,17 @@ pub(crate) fn settles_text(
             let Some((settle, later)) = left.split_first() else {
                 return Ok(());
             };
-            phase_text(out, done, scenario, trace, k, *show, before, settle)?;
+            phase_text(
+                out,
+                done,
+                &mut indexes,
+                scenario,
+                trace,
+                k,
+                *show,
+                before,
+                settle,
+            )?;
             k += 1;
             before = settle.turns;
             left = later;
