@@ -1,5 +1,6 @@
 -- A journal only grows.
-use Rattle.std.proofs.Common.{ℕ, ◌≤◌, List, [], ◌∷◌, ◌++◌, length, Bool, true, false, Result, Ok, Err, if◌then◌else◌, refl, sym, ap, ◌∙◌, append_assoc, arith, length-append, map}
+use Rattle.std.proofs.Common.{ℕ, ◌≤◌, List, [], ◌∷◌, ◌++◌, length, Bool, true, false, Option, Some, None, Result, Ok, Err, if◌then◌else◌, refl, sym, ap, ◌∙◌, append_assoc, arith, length-append, map}
+use Rattle.std.specs.Map.{keys_of}
 use Rattle.std.proofs.lemmas.List.{append-nil}
 use Rattle.or_base.specs.declared.entry.JournalEntry.{JournalEntry}
 use Rattle.or_base.specs.declared.value.Pair.{Pair}
@@ -10,14 +11,18 @@ use Rattle.or_base.specs.declared.message.Msg.{Msg}
 use Rattle.or_base.specs.declared.message.Msg.TheVariants.{Flood, Reply, Push, Ack}
 use Rattle.or_base.specs.declared.item.Item.{Item}
 use Rattle.or_base.specs.declared.item.Item.TheVariants.{Tick, Set, Restart, Net}
-use Rattle.or_base.specs.Journal.{offer, is_taken}
-use Rattle.kv_table.specs.Expiry.{keys_lost}
+use Rattle.or_base.specs.declared.value.KvValue.{KvValue}
+use Rattle.or_base.specs.Journal.{offer, is_taken, holds}
+use Rattle.kv_table.specs.Expiry.{keys_lost, expire}
 use Rattle.or_base.specs.Names.{is_among}
 use Rattle.kv_sync.specs.declared.session.Session.{Session}
 use Rattle.kv_sync.specs.declared.session.Stale.{Stale}
 use Rattle.kv_sync.specs.declared.session.SyncPhase.TheVariants.{Dumped, Pushed}
 use Rattle.kv_sync.specs.Sessions.{current}
-use Rattle.kv_store.specs.Store.{StoreState, offer_all, store_after_reply, store_after_ack, message_change, item_change, store_step}
+use Rattle.kv_self.specs.Owned.{own_under}
+use Rattle.kv_self.specs.Change.{on_change}
+use Rattle.kv_store.specs.Own.{OwnedKeys, offer_own, refresh_held, refresh_each, offered_value, write_each, keys_to_write}
+use Rattle.kv_store.specs.Store.{StoreState, offer_all, store_after_reply, store_after_ack, message_change, item_change, persisted_by, entries_since, store_after_item, store_step}
 use Rattle.kv_store.specs.Growth.{IsFront, JournalsGrow}
 
 -- a list is the front of itself, and of itself with more; a front of a front is a front
@@ -51,6 +56,25 @@ offers_grow journal (pair ∷ pairs) now origin =
     front_then journal (offer journal pair now origin) (offer_all (offer journal pair now origin) pairs now origin)
     (offer_grows journal pair now origin) (offers_grow (offer journal pair now origin) pairs now origin)
 
+-- what a node offers under its own keys
+own_grows : (journal : List JournalEntry) (key : List ℕ) (now : ℕ) (value : Option KvValue) → IsFront journal (offer_own journal key now value)
+own_grows journal key now None = front_same journal
+own_grows journal key now (Some value) = offer_grows journal (record { key = key; value = value }) now origin.Own
+
+refresh_grows : (owned : OwnedKeys) (now : ℕ) (journal : List JournalEntry) (keys : List (List ℕ)) → IsFront journal (refresh_each owned now journal keys)
+refresh_grows owned now journal [] = front_same journal
+refresh_grows owned now journal (key ∷ keys) =
+    let value = refresh_held (own_under owned key) now (holds journal key) in
+    front_then journal (offer_own journal key now value) (refresh_each owned now (offer_own journal key now value) keys)
+    (own_grows journal key now value) (refresh_grows owned now (offer_own journal key now value) keys)
+
+write_grows : (me : List ℕ) (owned : OwnedKeys) (now : ℕ) (journal : List JournalEntry) (keys : List (List ℕ)) → IsFront journal (write_each me owned now journal keys)
+write_grows me owned now journal [] = front_same journal
+write_grows me owned now journal (key ∷ keys) =
+    let value = offered_value (on_change me (own_under owned key) (holds journal key)) in
+    front_then journal (offer_own journal key now value) (write_each me owned now (offer_own journal key now value) keys)
+    (own_grows journal key now value) (write_grows me owned now (offer_own journal key now value) keys)
+
 flood_grows : (s : StoreState) (test : Bool) (pairs : List Pair)
     → IsFront s.journal (if test then s else record s { journal = offer_all s.journal pairs s.moment origin.Flood }).journal
 flood_grows s true pairs = front_same s.journal
@@ -73,16 +97,30 @@ message_grows s link from _ = front_same s.journal
 
 item_grows : (s : StoreState) (item : Item) → IsFront s.journal (item_change s item).store.journal
 unfolding item_change
-item_grows s (Tick at) = front_with s.journal (map (λ key. Expired key at) (keys_lost s.journal at))
+item_grows s (Tick at) =
+    let refreshed = refresh_each s.owned at s.journal (keys_of s.owned) in
+    front_then s.journal refreshed (expire refreshed at) (refresh_grows s.owned at s.journal (keys_of s.owned))
+    (front_with refreshed (map (λ key. Expired key at) (keys_lost refreshed at)))
 item_grows s (Set pair) = offer_grows s.journal pair s.moment origin.Local
 item_grows s Restart = front_with s.journal (Cleared s.moment ∷ [])
 item_grows s (Net link from msg) = message_grows s link from msg
 item_grows s _ = front_same s.journal
 
--- what the item changes leaves the journal as long as it was, or longer
+after_item_grows : (s : StoreState) (item : Item) → IsFront s.journal (store_after_item s item).journal
+after_item_grows s item =
+    let after = (item_change s item).store in
+    let keys = keys_to_write after.owned (persisted_by item) (entries_since s after) in
+    front_then s.journal after.journal (store_after_item s item).journal (item_grows s item) (write_grows after.me after.owned after.moment after.journal keys)
+
+-- what the item changes, and what the node writes then, leaves the journal as long as it was, or longer
 pub journal_grows : (s : StoreState) (item : Item) → length s.journal ≤ length (item_change s item).store.journal
 journal_grows s item = front_shorter s.journal (item_change s item).store.journal (item_grows s item)
 
+pub journal_grows-written : (s : StoreState) (item : Item) → length s.journal ≤ length (store_after_item s item).journal
+journal_grows-written s item = front_shorter s.journal (store_after_item s item).journal (after_item_grows s item)
+
+pub ruleset growing = (journal_grows, journal_grows-written)
+
 pub journals_grow : JournalsGrow
 unfolding store_step
-journals_grow s item = item_grows s item
+journals_grow s item = after_item_grows s item

@@ -1,5 +1,6 @@
 pub mod Peers
 pub mod Growth
+pub mod Written
 pub mod Starting
 pub mod Responding
 pub mod Turn

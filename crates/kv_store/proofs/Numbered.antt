@@ -14,11 +14,11 @@ use Rattle.or_base.specs.declared.message.Msg.{Msg}
 use Rattle.or_base.specs.declared.message.Msg.TheVariants.{Flood}
 use Rattle.or_base.specs.declared.message.Msg.TheVariants as msg
 use Rattle.or_base.specs.declared.item.Item.{Item}
-use Rattle.or_base.specs.declared.item.Item.TheVariants.{Tick, Set, PeerUp, PeerDown, Restart, Net}
+use Rattle.or_base.specs.declared.item.Item.TheVariants.{Tick, Set, Persist, Unset, PeerUp, PeerDown, Restart, Net}
 use Rattle.or_base.specs.ByLink.{at_link, with_link}
 use Rattle.or_base.specs.Journal.{offer}
 use Rattle.or_base.specs.Names.{is_among}
-use Rattle.kv_table.specs.Expiry.{expire}
+use Rattle.kv_self.specs.Owned.{with_owned, without_owned}
 use Rattle.kv_table.specs.Sending.{withheld_count}
 use Rattle.kv_sync.specs.declared.session.Session.{Session}
 use Rattle.kv_sync.specs.declared.session.Stale.{Stale}
@@ -29,7 +29,7 @@ use Rattle.kv_sync.proofs.Law.{found_where_current}
 use Rattle.kv_sync.proofs.Finished.{all_numbered_none, all_numbered_started, all_numbered_replied, all_numbered_pushed, all_numbered_without, all_numbered_dropped, all_numbered_finished}
 use Rattle.kv_store.specs.declared.response.Response.{Response}
 use Rattle.kv_store.specs.declared.response.Response.TheVariants.{Start, StartAll, Push}
-use Rattle.kv_store.specs.Store.{StoreState, store_after_offers, store_after_reply, store_after_ack, message_change, item_change, start_with, start_on, start_each, push_on, respond, store_step}
+use Rattle.kv_store.specs.Store.{StoreState, store_after_offers, store_after_reply, store_after_ack, message_change, item_change, store_after_tick, store_after_item, start_with, start_on, start_each, push_on, respond, store_step}
 use Rattle.kv_store.specs.Growth.{IsFront}
 use Rattle.kv_store.specs.Numbered.{IsNumbered, NumbersStayApart}
 use Rattle.kv_store.proofs.Growth.{front_same, front_with}
@@ -104,7 +104,9 @@ length-remove_entry test (p ∷ peers) = by_test (length-remove_entry test peers
 
 item_keeps : (s : StoreState) (item : Item) → Keeps s (item_change s item).store
 unfolding item_change
-item_keeps s (Tick at) = same_syncs s (record s { moment = at; journal = expire s.journal at }) refl refl refl
+item_keeps s (Tick at) = same_syncs s (store_after_tick s at) refl refl refl
+item_keeps s (Persist key value ttl) = same_syncs s (record s { owned = with_owned s.owned key (record { value = value; ttl = ttl }) }) refl refl refl
+item_keeps s (Unset key) = same_syncs s (record s { owned = without_owned s.owned key }) refl refl refl
 item_keeps s (Set pair) = same_syncs s (record s { journal = offer s.journal pair s.moment origin.Local }) refl refl refl
 item_keeps s (PeerUp link peer) = record {
   peers = length-with_link s.peers link peer;
@@ -200,7 +202,7 @@ turn_numbered : (turns : ℕ) (s : StoreState) (item : Item) → IsNumbered turn
 unfolding store_step
 turn_numbered turns s item numbered =
     let keeps = item_keeps s item in
-    let responds = response_responds (item_change s item).store (item_change s item).response in
+    let responds = response_responds (store_after_item s item) (item_change s item).response in
     record {
       peers = omega (arith, keeps.peers, numbered.peers);
       last = omega (arith, responds.last, keeps.last, keeps.peers, numbered.peers, numbered.last, square turns);
@@ -213,7 +215,7 @@ turn_finished s item = (item_keeps s item).done
 
 pub numbers_stay_apart : NumbersStayApart
 numbers_stay_apart = record {
-  start = λ me. record { peers = omega arith; last = omega arith; syncs = all_numbered_none };
+  start = λ kind me. record { peers = omega arith; last = omega arith; syncs = all_numbered_none };
   turn = turn_numbered;
   differ = λ turns s numbered within. numbered.syncs.apart (omega (arith, numbered.last, within));
   finished = turn_finished;

@@ -23,8 +23,10 @@ use Rattle.kv_sync.specs.declared.session.SyncPhase.TheVariants.{Dumped, Pushed}
 use Rattle.kv_sync.specs.Sessions.{current}
 use Rattle.or_actor.specs.declared.output.Output.{Output}
 use Rattle.or_actor.specs.Fits.{has_small_link, sends_small_link, have_small_links}
+use Rattle.or_base.specs.declared.kind.Kind.{Kind}
+use Rattle.or_base.specs.declared.kind.Kind.TheVariants.{Stores, Full}
 use Rattle.kv_flood.specs.Flooding.{is_target, flood_message}
-use Rattle.kv_store.specs.Store.{StoreState, store_after_offers, store_after_reply, store_after_ack, message_change, item_change, message_on, relay_to, begin_to, floods_to, relayed_keys, own_keys, floods}
+use Rattle.kv_store.specs.Store.{StoreState, store_after_offers, store_after_reply, store_after_ack, message_change, item_change, message_on, relay_to, floods_to, relayed_keys, own_keys, floods, entries_told}
 
 -- ---- what floods name
 
@@ -40,28 +42,42 @@ pub small_both : (xs ys : List Output) → have_small_links xs ≡ true → have
 small_both xs ys hx hy =
     list_all-append sends_small_link xs ys ∙ ap (λ b. b && have_small_links ys) hx ∙ hy
 
-small_to : (me : List ℕ) (journal : List JournalEntry) (now : ℕ) (relayed passed own : List (List ℕ)) (peer : ℕ × List ℕ) → peer.0 < 2 ^ 31
-    → have_small_links (floods_to me journal now relayed passed own peer) ≡ true
-unfolding relay_to begin_to
-small_to me journal now relayed passed own peer small =
-    small_both (relay_to me journal now relayed passed peer) (begin_to me journal now own peer)
-    (small_if (is_target me peer.1 passed) (message_on me peer.0 (flood_message journal now relayed passed me))
-    (small_message me peer.0 (flood_message journal now relayed passed me) small))
-    (small_message me peer.0 (flood_message journal now own [] me) small)
+small_relay : (me : List ℕ) (passed : List (List ℕ)) (relayed : Option Msg) (peer : ℕ × List ℕ) → peer.0 < 2 ^ 31 → have_small_links (relay_to me passed peer relayed) ≡ true
+small_relay me passed None peer small = refl
+small_relay me passed (Some msg) peer small =
+    small_if (is_target me peer.1 passed) (message_on me peer.0 (Some msg)) (small_message me peer.0 (Some msg) small)
 
-small_all : (me : List ℕ) (journal : List JournalEntry) (now : ℕ) (relayed passed own : List (List ℕ)) (peers : List (ℕ × List ℕ)) → All (λ link. link < 2 ^ 31) (keys_of peers)
-    → have_small_links (flat_map (floods_to me journal now relayed passed own) peers) ≡ true
-small_all me journal now relayed passed own [] h = refl
-small_all me journal now relayed passed own (p ∷ peers) h =
-    small_both (floods_to me journal now relayed passed own p) (flat_map (floods_to me journal now relayed passed own) peers)
-    (small_to me journal now relayed passed own p (All-head (λ link. link < 2 ^ 31) p.0 (keys_of peers) h))
-    (small_all me journal now relayed passed own peers (All-tail (λ link. link < 2 ^ 31) p.0 (keys_of peers) h))
+small_to : (me : List ℕ) (passed : List (List ℕ)) (relayed own : Option Msg) (peer : ℕ × List ℕ) → peer.0 < 2 ^ 31 → have_small_links (floods_to me passed relayed own peer) ≡ true
+small_to me passed relayed own peer small =
+    small_both (relay_to me passed peer relayed) (message_on me peer.0 own) (small_relay me passed relayed peer small) (small_message me peer.0 own small)
+
+small_all : (me : List ℕ) (passed : List (List ℕ)) (relayed own : Option Msg) (peers : List (ℕ × List ℕ)) → All (λ link. link < 2 ^ 31) (keys_of peers)
+    → have_small_links (flat_map (floods_to me passed relayed own) peers) ≡ true
+small_all me passed relayed own [] h = refl
+small_all me passed relayed own (p ∷ peers) h =
+    small_both (floods_to me passed relayed own p) (flat_map (floods_to me passed relayed own) peers)
+    (small_to me passed relayed own p (All-head (λ link. link < 2 ^ 31) p.0 (keys_of peers) h))
+    (small_all me passed relayed own peers (All-tail (λ link. link < 2 ^ 31) p.0 (keys_of peers) h))
 
 -- floods to peers on links with small numbers name such links
 pub have_small_links-floods : (s : StoreState) (entries : List JournalEntry) (passed : List (List ℕ)) → All (λ link. link < 2 ^ 31) (keys_of s.peers)
     → have_small_links (floods s entries passed) ≡ true
 unfolding floods
-have_small_links-floods s entries passed h = small_all s.me s.journal s.moment (relayed_keys entries) passed (own_keys entries) s.peers h
+have_small_links-floods s entries passed h =
+    small_all s.me passed (flood_message s.journal s.moment (relayed_keys entries) passed s.me) (flood_message s.journal s.moment (own_keys entries) [] s.me) s.peers h
+
+-- what Decision is told names no link
+pub have_small_links-told : (kind : Kind) (entries : List JournalEntry) → have_small_links (entries_told kind entries) ≡ true
+have_small_links-told Stores entries = refl
+have_small_links-told Full [] = refl
+have_small_links-told Full (entry ∷ entries) = have_small_links-told Full entries
+
+-- the floods of a turn, from their two messages
+pub floods_made : (s : StoreState) (entries : List JournalEntry) (passed : List (List ℕ)) (relayed own : Option Msg)
+    → relayed ≡ flood_message s.journal s.moment (relayed_keys entries) passed s.me → own ≡ flood_message s.journal s.moment (own_keys entries) [] s.me
+    → flat_map (floods_to s.me passed relayed own) s.peers ≡ floods s entries passed
+unfolding floods
+floods_made s entries passed relayed own r o = rw (r, o) refl
 
 -- ---- the peers
 

@@ -1,5 +1,5 @@
 -- The response to an item: its link has a small number, and a push stands only where the reply of its session has arrived.
-use Rattle.std.proofs.Common.{◌≡◌, ℕ, ◌<◌, ◌^◌, List, [], ◌∷◌, length, Option, Some, None, true, Result, Ok, Err, refl, ap}
+use Rattle.std.proofs.Common.{◌≡◌, ℕ, ◌<◌, ◌^◌, List, [], ◌∷◌, length, Option, Some, None, true, Result, Ok, Err, is_ok, refl, ap, ◌∙◌}
 use Rattle.std.specs.Prelude.{All}
 use Rattle.std.specs.Map.{keys_of}
 use Rattle.std.proofs.lemmas.Bool.{ltb-true}
@@ -22,7 +22,7 @@ use Rattle.kv_sync.proofs.Onward.{at_link-with_link}
 use Rattle.kv_store.specs.declared.response.Response.{Response}
 use Rattle.kv_store.specs.declared.response.Response.TheVariants.{Nothing, Start, StartAll, Reply, Push, Ack}
 use Rattle.kv_store.specs.Response.{is_on_small_link}
-use Rattle.kv_store.specs.Store.{StoreState, start_with, start_on, start_each, push_on, respond, store_after_reply, response_to_reply, message_change, item_change, may_respond}
+use Rattle.kv_store.specs.Store.{StoreState, start_with, start_on, start_each, push_on, respond, store_after_reply, response_to_reply, message_change, item_change, store_after_item, may_respond}
 use Rattle.kv_store.proofs.Peers.{small_message, small_both}
 
 -- ---- the links of what is sent
@@ -61,7 +61,7 @@ small_response s (Ack link session) all small = small_message s.me link (Some (a
 
 -- ---- the link that a response goes to
 
-small_reply : (link : ℕ) (wanted : List (List ℕ)) (running : Result Session Stale) → is_link_number link ≡ true → is_on_small_link (response_to_reply link wanted running) ≡ true
+small_reply : (link : ℕ) (wanted : List (List ℕ)) (running : Result Session Stale) → is_link_number link ≡ true → is_on_small_link (response_to_reply link wanted (is_ok running)) ≡ true
 small_reply link wanted (Ok session) small = small
 small_reply link wanted (Err stale) small = refl
 
@@ -82,7 +82,7 @@ is_on_small_link-item s _ small = refl
 -- ---- a push
 
 reply_arrived : (s : StoreState) (link b0 : ℕ) (pairs : List Pair) (wanted : List (List ℕ)) (withheld : ℕ) (running : Result Session Stale)
-    → may_respond (store_after_reply s link b0 pairs withheld running) (response_to_reply link wanted running) ≡ true
+    → may_respond (store_after_reply s link b0 pairs withheld running) (response_to_reply link wanted (is_ok running)) ≡ true
 reply_arrived s link b0 pairs wanted withheld (Ok session) = ap may_push (at_link-with_link link (session_after_reply session b0 withheld) s.sessions.running)
 reply_arrived s link b0 pairs wanted withheld (Err stale) = refl
 
@@ -90,9 +90,17 @@ message_arrived : (s : StoreState) (link : ℕ) (from : List ℕ) (msg : Msg) �
 message_arrived s link from (msg.Reply session b0 pairs wanted withheld) = reply_arrived s link b0 pairs wanted withheld (current s.sessions link session Dumped)
 message_arrived s link from _ = refl
 
-pub may_respond-item : (s : StoreState) (item : Item) → may_respond (item_change s item).store (item_change s item).response ≡ true
+item_arrived : (s : StoreState) (item : Item) → may_respond (item_change s item).store (item_change s item).response ≡ true
 unfolding item_change
-may_respond-item s (Net link from msg) = message_arrived s link from msg
-may_respond-item s _ = refl
+item_arrived s (Net link from msg) = message_arrived s link from msg
+item_arrived s _ = refl
+
+-- what the node writes then changes nothing of it
+same_arrived : (s : StoreState) (journal : List JournalEntry) (response : Response) → may_respond (record s { journal = journal }) response ≡ may_respond s response
+same_arrived s journal (Push link wanted) = refl
+same_arrived s journal _ = refl
+
+pub may_respond-item : (s : StoreState) (item : Item) → may_respond (store_after_item s item) (item_change s item).response ≡ true
+may_respond-item s item = same_arrived (item_change s item).store (store_after_item s item).journal (item_change s item).response ∙ item_arrived s item
 
 pub ruleset responding = (is_on_small_link-item, may_respond-item)

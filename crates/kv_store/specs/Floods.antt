@@ -6,4 +6,4 @@ use Rattle.kv_store.specs.Store.{floods_to}
 
 -- the floods to a peer
 abbrev pub flooded_to : Floods → ℕ × List ℕ → List Output
-flooded_to f peer = floods_to f.me.now f.table.now f.moment f.relayed.now f.passed.now f.own.now peer
+flooded_to f peer = floods_to f.me.now f.passed.now f.relayed f.own peer

@@ -1,8 +1,9 @@
 -- A node's store as a module: one turn.
-use Rattle.std.specs.Prelude.{ℕ, ◌+◌, List, [], ◌∷◌, ◌++◌, length, drop, Bool, true, false, not, Option, Some, None, Result, Ok, Err, if◌then◌else◌}
+use Rattle.std.specs.Prelude.{ℕ, ◌+◌, List, [], ◌∷◌, ◌++◌, length, drop, map, Bool, true, false, not, Option, Some, None, Result, Ok, Err, is_ok, if◌then◌else◌}
 use Rattle.std.specs.Str.{bytes_eq}
 use Rattle.std.specs.Option.{option_map_or}
 use Rattle.std.specs.List.{flat_map, filter, filter_map, last_or}
+use Rattle.std.specs.Map.{keys_of}
 use Rattle.or_base.specs.declared.entry.JournalEntry.{JournalEntry}
 use Rattle.or_base.specs.declared.entry.JournalEntry.TheVariants.{Merged, Expired, Cleared}
 use Rattle.or_base.specs.declared.value.Pair.{Pair}
@@ -14,40 +15,46 @@ use Rattle.or_base.specs.declared.message.Msg.TheVariants as msg
 use Rattle.or_base.specs.declared.item.Item.{Item}
 use Rattle.or_base.specs.declared.item.Item.TheVariants.{Up, Down, Script, Tick, Set, Sync, Restart, Persist, Unset, Drain, LinkDrain, Metric, Advertise, Withdraw, Aggregate, Get, Ask, LinkUp, LinkDown, NeighbourUp, NeighbourDown, PeerUp, PeerDown, Net, Entry, Routes}
 use Rattle.or_base.specs.declared.session.SyncDone.{SyncDone}
+use Rattle.or_base.specs.declared.kind.Kind.{Kind}
+use Rattle.or_base.specs.declared.kind.Kind.TheVariants.{Stores, Full}
 use Rattle.or_base.specs.ByLink.{at_link, with_link, without_link}
 use Rattle.or_base.specs.Counting.{saturate}
 use Rattle.or_base.specs.Journal.{offer, held_keys}
 use Rattle.or_base.specs.Names.{is_among}
 use Rattle.or_actor.specs.declared.output.Output.{Output}
 use Rattle.or_actor.specs.declared.output.Output.TheVariants.{To}
-use Rattle.or_actor.specs.Ports.{first_link_port}
+use Rattle.or_actor.specs.Ports.{first_link_port, decision_port}
 use Rattle.kv_table.specs.Expiry.{expire}
 use Rattle.kv_table.specs.Sending.{withheld_count}
 use Rattle.kv_flood.specs.Flooding.{is_target, flood_message}
+use Rattle.kv_self.specs.Owned.{with_owned, without_owned}
 use Rattle.kv_sync.specs.declared.session.Session.{Session}
 use Rattle.kv_sync.specs.declared.session.Stale.{Stale}
 use Rattle.kv_sync.specs.declared.session.SyncPhase.TheVariants.{Dumped, Pushed}
 use Rattle.kv_sync.specs.Sessions.{SessionsState, no_sessions, session_on, with_session, without_session, without_sessions, with_started_session, current, session_after_reply, after_push, done_of}
 use Rattle.kv_sync.specs.Running.{may_push}
 use Rattle.kv_sync.specs.Messages.{dump_message, reply_message, push_message, ack_message}
+use Rattle.kv_store.specs.Own.{OwnedKeys, refresh_each, write_each, keys_to_write}
 use Rattle.kv_store.specs.declared.response.Response.{Response}
 use Rattle.kv_store.specs.declared.response.Response.TheVariants.{Nothing, Start, StartAll, Reply, Push, Ack}
 
--- A store: its node's name, its journal, the moment in milliseconds, the name of the peer on each link that has one,
--- in the order of links, the full syncs that it started and that run, the count of stale messages that arrived, and the full
--- syncs that it started and that were finished, in the order of their ends.
+-- A store: the laboratory's kind, its node's name, its journal, the moment in milliseconds, the keys that its node owns, the name
+-- of the peer on each link that has one, in the order of links, the full syncs that it started and that run, the count of stale
+-- messages that arrived, and the full syncs that it started and that were finished, in the order of their ends.
 pub record StoreState : Type 0 where
+  pub kind : Kind
   pub me : List ℕ
   pub journal : List JournalEntry
   pub moment : ℕ
+  pub owned : OwnedKeys
   pub peers : List (ℕ × List ℕ)
   pub sessions : SessionsState
   pub stale : ℕ
   pub done : List SyncDone
 
 -- a store as it starts
-abbrev pub new_store : List ℕ → StoreState
-new_store me = record { me = me; journal = []; moment = 0; peers = []; sessions = no_sessions; stale = 0; done = [] }
+abbrev pub new_store : Kind → List ℕ → StoreState
+new_store kind me = record { kind = kind; me = me; journal = []; moment = 0; owned = []; peers = []; sessions = no_sessions; stale = 0; done = [] }
 
 -- ---- what an item changes
 
@@ -73,37 +80,46 @@ store_after_reply s link b0 pairs withheld (Ok session) =
     store_after_offers (record s { sessions = with_session s.sessions link (session_after_reply session b0 withheld) }) pairs origin.SyncReply
 store_after_reply s link b0 pairs withheld (Err stale) = with_stale_counted s
 
--- and what it wants is pushed
-abbrev pub response_to_reply : ℕ → List (List ℕ) → Result Session Stale → Response
-response_to_reply link wanted (Ok session) = Push link wanted
-response_to_reply link wanted (Err stale) = Nothing
+-- and what it wants is pushed, where it arrived for its session
+abbrev pub response_to_reply : ℕ → List (List ℕ) → Bool → Response
+response_to_reply link wanted arrived = if arrived then Push link wanted else Nothing
 
 -- an acknowledgement that arrives for its session: the sync is finished; one that is stale counts
 abbrev pub store_after_ack : StoreState → ℕ → Result Session Stale → StoreState
 store_after_ack s link (Ok session) = record s { sessions = without_session s.sessions link; done = s.done ++ done_of link session ∷ [] }
 store_after_ack s link (Err stale) = with_stale_counted s
 
--- What an item makes of a store: the store after it, what it has to respond with, and the nodes that the flood of what the item brings
--- has passed.
+-- What an item makes of a store: the store after it, what it has to respond with, and the nodes that the flood of what the item
+-- brings has passed.
 pub record Change : Type 0 where
   pub store : StoreState
   pub response : Response
   pub passed : List (List ℕ)
 
+-- the store becomes this one and has to respond so; the item brings nothing that another node flooded
+abbrev pub responding : StoreState → Response → Change
+responding s response = record { store = s; response = response; passed = [] }
+
 -- the store becomes this one, and nothing is to be responded
 abbrev pub change_to : StoreState → Change
-change_to s = record { store = s; response = Nothing; passed = [] }
+change_to s = responding s Nothing
+
+-- the store becomes this one and has to respond so to pairs whose flood has passed these nodes
+abbrev pub change_by : StoreState → Response → List (List ℕ) → Change
+change_by s response passed = record { store = s; response = response; passed = passed }
+
+-- the moment is this: lifetimes under owned keys that are due begin anew, and then what has reached its deadline is lost
+abbrev pub store_after_tick : StoreState → ℕ → StoreState
+store_after_tick s at = record s { moment = at; journal = expire (refresh_each s.owned at s.journal (keys_of s.owned)) at }
 
 -- each message of the node `from`; the last three are of Spark, and a store doesn't take them
 abbrev pub message_change : StoreState → ℕ → List ℕ → Msg → Change
-message_change s link from (Flood passed pairs) = record { store = store_after_flood s passed pairs; response = Nothing; passed = passed }
-message_change s link from (msg.Dump session digest) = record { store = s; response = Reply link session digest; passed = [] }
-message_change s link from (msg.Reply session b0 pairs wanted withheld) = record {
-  store = store_after_reply s link b0 pairs withheld (current s.sessions link session Dumped);
-  response = response_to_reply link wanted (current s.sessions link session Dumped);
-  passed = from ∷ [];
-}
-message_change s link from (msg.Push session pairs) = record { store = store_after_offers s pairs origin.SyncPush; response = Ack link session; passed = from ∷ [] }
+message_change s link from (Flood passed pairs) = change_by (store_after_flood s passed pairs) Nothing passed
+message_change s link from (msg.Dump session digest) = responding s (Reply link session digest)
+message_change s link from (msg.Reply session b0 pairs wanted withheld) =
+    change_by (store_after_reply s link b0 pairs withheld (current s.sessions link session Dumped))
+    (response_to_reply link wanted (is_ok (current s.sessions link session Dumped))) (from ∷ [])
+message_change s link from (msg.Push session pairs) = change_by (store_after_offers s pairs origin.SyncPush) (Ack link session) (from ∷ [])
 message_change s link from (msg.Ack session) = change_to (store_after_ack s link (current s.sessions link session Pushed))
 message_change s link from (Hello iface heard restarting) = change_to s
 message_change s link from (Handshake iface done) = change_to s
@@ -111,22 +127,18 @@ message_change s link from Heartbeat = change_to s
 
 -- each item; those from Up on a store doesn't take
 unfoldable pub item_change : StoreState → Item → Change
-item_change s (Tick at) = change_to (record s { moment = at; journal = expire s.journal at })
+item_change s (Tick at) = change_to (store_after_tick s at)
 item_change s (Set pair) = change_to (record s { journal = offer s.journal pair s.moment origin.Local })
-item_change s (PeerUp link peer) = record { store = record s { peers = with_link s.peers link peer }; response = Start link; passed = [] }
+item_change s (PeerUp link peer) = responding (record s { peers = with_link s.peers link peer }) (Start link)
 item_change s (PeerDown link) = change_to (record s { peers = without_link s.peers link; sessions = without_session s.sessions link })
-item_change s (Sync link) = record { store = s; response = Start link; passed = [] }
-item_change s Restart = record {
-  store = record s { journal = s.journal ++ Cleared s.moment ∷ []; sessions = without_sessions s.sessions };
-  response = StartAll;
-  passed = [];
-}
+item_change s (Sync link) = responding s (Start link)
+item_change s Restart = responding (record s { journal = s.journal ++ Cleared s.moment ∷ []; sessions = without_sessions s.sessions }) StartAll
+item_change s (Persist key value ttl) = change_to (record s { owned = with_owned s.owned key (record { value = value; ttl = ttl }) })
+item_change s (Unset key) = change_to (record s { owned = without_owned s.owned key })
 item_change s (Net link from msg) = message_change s link from msg
 item_change s Up = change_to s
 item_change s Down = change_to s
 item_change s (Script from acts) = change_to s
-item_change s (Persist key value ttl) = change_to s
-item_change s (Unset key) = change_to s
 item_change s (Drain on) = change_to s
 item_change s (LinkDrain link on) = change_to s
 item_change s (Metric link metric) = change_to s
@@ -226,31 +238,51 @@ own_keys entries = filter (is_own entries) (held_keys entries)
 unfoldable pub relayed_keys : List JournalEntry → List (List ℕ)
 relayed_keys entries = filter (λ key. not (is_own entries key)) (held_keys entries)
 
--- a flood that is passed on to a peer that it hasn't passed
-unfoldable pub relay_to : List ℕ → List JournalEntry → ℕ → List (List ℕ) → List (List ℕ) → ℕ × List ℕ → List Output
-relay_to me journal now keys passed peer =
-    if is_target me peer.1 passed then message_on me peer.0 (flood_message journal now keys passed me) else []
+-- a flood that is passed on goes to a peer that it hasn't passed
+abbrev pub relay_to : List ℕ → List (List ℕ) → ℕ × List ℕ → Option Msg → List Output
+relay_to me passed peer None = []
+relay_to me passed peer (Some msg) = if is_target me peer.1 passed then message_on me peer.0 (Some msg) else []
 
--- a flood that begins here
-unfoldable pub begin_to : List ℕ → List JournalEntry → ℕ → List (List ℕ) → ℕ × List ℕ → List Output
-begin_to me journal now keys peer = message_on me peer.0 (flood_message journal now keys [] me)
-
--- a peer gets a flood of what is passed on, and then one of what begins here
-abbrev pub floods_to : List ℕ → List JournalEntry → ℕ → List (List ℕ) → List (List ℕ) → List (List ℕ) → ℕ × List ℕ → List Output
-floods_to me journal now relayed passed own peer = relay_to me journal now relayed passed peer ++ begin_to me journal now own peer
+-- a peer gets what is passed on, and then what begins here
+abbrev pub floods_to : List ℕ → List (List ℕ) → Option Msg → Option Msg → ℕ × List ℕ → List Output
+floods_to me passed relayed own peer = relay_to me passed peer relayed ++ message_on me peer.0 own
 
 -- the floods of a turn that appended these entries, to each peer in the order of links
 unfoldable pub floods : StoreState → List JournalEntry → List (List ℕ) → List Output
-floods s entries passed = flat_map (floods_to s.me s.journal s.moment (relayed_keys entries) passed (own_keys entries)) s.peers
+floods s entries passed =
+    let relayed = flood_message s.journal s.moment (relayed_keys entries) passed s.me in
+    let own = flood_message s.journal s.moment (own_keys entries) [] s.me in
+    flat_map (floods_to s.me passed relayed own) s.peers
+
+-- ---- the turn
+
+-- each entry that a turn appended goes to Decision, which a full node alone has
+abbrev pub entries_told : Kind → List JournalEntry → List Output
+entries_told Stores entries = []
+entries_told Full entries = map (λ entry. To decision_port (Entry entry)) entries
 
 -- the entries that a turn appended
 abbrev pub entries_since : StoreState → StoreState → List JournalEntry
 entries_since before after = drop (length before.journal) after.journal
 
--- One turn of a store: the state after it, and what is sent: first the response, and then the floods.
+-- the store after its node wrote under its own keys, in a turn that persisted these and appended these entries so far
+abbrev pub with_own_written : StoreState → List (List ℕ) → List JournalEntry → StoreState
+with_own_written s persisted entries = record s { journal = write_each s.me s.owned s.moment s.journal (keys_to_write s.owned persisted entries) }
+
+-- the key that an item persists
+abbrev pub persisted_by : Item → List (List ℕ)
+persisted_by (Persist key value ttl) = key ∷ []
+persisted_by _ = []
+
+-- the store after an item and after what its node writes then
+abbrev pub store_after_item : StoreState → Item → StoreState
+store_after_item s item = let after = (item_change s item).store in with_own_written after (persisted_by item) (entries_since s after)
+
+-- One turn of a store: the state after it, and what is sent: first the response, then the floods, and then what Decision is told.
 unfoldable pub store_step : StoreState → Item → StoreState × List Output
 store_step s item =
     let change = item_change s item in
-    let after = change.store in
+    let after = store_after_item s item in
     let responded = respond after change.response in
-    (record after { sessions = responded.0 }, responded.1 ++ floods after (entries_since s after) change.passed)
+    let entries = entries_since s after in
+    (record after { sessions = responded.0 }, responded.1 ++ (floods after entries change.passed ++ entries_told after.kind entries))

@@ -1,14 +1,13 @@
 //! What a turn floods: which keys, to whom, and in which order.
 
-ghost use Rattle.std.specs.Prelude.{◌≡◌, ◌++◌, ◌<◌, All, IfOk, OnOk};
+ghost use Rattle.std.specs.Prelude.{◌≡◌, ◌++◌, ◌<◌, All, Some, IfOk, OnOk};
 ghost use Rattle.std.specs.List.{flat_map};
 ghost use Rattle.std.specs.Map.{keys_of};
 ghost use Rattle.or_actor.specs.Fits.{link_number_end};
-ghost use Rattle.kv_store.specs.Store.{merge_origin, last_origin, begins_here, is_own, own_keys, relayed_keys, message_on, relay_to, begin_to};
+ghost use Rattle.kv_store.specs.Store.{merge_origin, last_origin, begins_here, is_own, own_keys, relayed_keys, message_on, relay_to};
 
 use crate::answers::send_on;
-use kv_flood::{flood_message, flood_target};
-use kv_table::KvTable;
+use kv_flood::flood_target;
 use or_actor::Outbox;
 use or_base::{JournalEntry, Key, Msg, Name, NoMemory, Origin, held_keys};
 use std::alloc::Global;
@@ -85,100 +84,62 @@ pub fn relayed_keys(alloc: Global, entries: &[JournalEntry]) -> Result<Vec<Key>,
     Ok(keys)
 }
 
-/// Sends a message on a link, if there is one.
-fn send_if(me: &Name, link: u32, msg: Option<Msg>, out: &mut Outbox) -> Result<(), NoMemory>
+/// Sends a copy of a message on a link, if there is one.
+fn send_copy(me: &Name, link: u32, msg: &Option<Msg>, out: &mut Outbox) -> Result<(), NoMemory>
     requires { link < link_number_end }
-    ensures sent { OnOk result (out.new ≡ out.old ++ message_on me.now link msg) }
+    ensures sent { OnOk result (out.new ≡ out.old ++ message_on me.now link msg.now) }
 {
     if let Some(msg) = msg {
-        send_on(me, link, msg, out)?;
+        send_on(me, link, msg.copied()?, out)?;
     }
     Ok(())
 }
 
-/// What a turn floods.
-#[derive(Clone, Copy)]
+/// What a turn floods, made once for all peers.
+#[derive(Drop)]
 pub struct Floods<'a> {
     pub me: &'a Name,
-    pub table: &'a KvTable,
-    pub moment: u64,
-    /// The keys that are passed on, and the nodes that they have passed.
-    pub relayed: &'a [Key],
+    /// The nodes that what is passed on has passed.
     pub passed: &'a [Name],
-    /// The keys whose flood begins here.
-    pub own: &'a [Key],
+    /// What is passed on, if anything is.
+    pub relayed: Option<Msg>,
+    /// What begins here, if anything does.
+    pub own: Option<Msg>,
 }
 
 impl Floods<'_> {
     ghost use Rattle.kv_store.specs.Floods.{flooded_to};
 
-    /// Passes the keys on to a peer that the flood hasn't passed.
-    #[tactic(auto, unfolding(crate::specs::Store::relay_to))]
-    fn relay_to(
-        &self,
-        alloc: Global,
-        link: u32,
-        peer: &Name,
-        out: &mut Outbox,
-    ) -> Result<(), NoMemory>
+    /// Passes the message on to a peer that it hasn't passed.
+    fn relay_to(&self, link: u32, peer: &Name, msg: &Msg, out: &mut Outbox) -> Result<(), NoMemory>
         requires { link < link_number_end }
-        ensures { OnOk result (out.new ≡ out.old
-            ++ relay_to self.now.me.now self.now.table.now self.now.moment self.now.relayed.now self.now.passed.now (link, peer.now)) }
+        ensures { OnOk result (out.new ≡ out.old ++ relay_to self.now.me.now self.now.passed.now (link, peer.now) (Some msg.now)) }
     {
         if flood_target(self.me, peer, self.passed) {
-            let now = self.moment;
-            let msg = flood_message(alloc, self.table, now, self.relayed, self.passed, self.me)?;
-            send_if(self.me, link, msg, out)?;
+            send_on(self.me, link, msg.copied()?, out)?;
         }
         Ok(())
     }
 
-    /// Begins a flood to the peer on a link.
-    #[tactic(auto, unfolding(crate::specs::Store::begin_to))]
-    fn begin_on(
-        &self,
-        alloc: Global,
-        link: u32,
-        peer: &Name,
-        out: &mut Outbox,
-    ) -> Result<(), NoMemory>
-        requires { link < link_number_end }
-        ensures { OnOk result (out.new ≡ out.old ++ begin_to self.now.me.now self.now.table.now self.now.moment self.now.own.now (link, peer.now)) }
-    {
-        let _peer = peer;
-        let msg = flood_message(alloc, self.table, self.moment, self.own, &[], self.me)?;
-        send_if(self.me, link, msg, out)?;
-        Ok(())
-    }
-
     /// Both floods to a peer.
-    fn send_to(
-        &self,
-        alloc: Global,
-        link: u32,
-        peer: &Name,
-        out: &mut Outbox,
-    ) -> Result<(), NoMemory>
+    fn send_to(&self, link: u32, peer: &Name, out: &mut Outbox) -> Result<(), NoMemory>
         requires { link < link_number_end }
         ensures { OnOk result (out.new ≡ out.old ++ flooded_to self.now (link, peer.now)) }
     {
-        self.relay_to(alloc, link, peer, out)?;
-        self.begin_on(alloc, link, peer, out)?;
+        if let Some(msg) = &self.relayed {
+            self.relay_to(link, peer, msg, out)?;
+        }
+        send_copy(self.me, link, &self.own, out)?;
         Ok(())
     }
 
     /// The floods to each peer, in the order of links.
-    pub fn send(
-        &self,
-        alloc: Global,
-        peers: &BTreeMap<u32, Name>,
-        out: &mut Outbox,
-    ) -> Result<(), NoMemory>
+    pub fn send(&self, peers: &BTreeMap<u32, Name>, out: &mut Outbox) -> Result<(), NoMemory>
         requires { All (λ link. link < link_number_end) (keys_of peers.now.entries) }
         ensures { OnOk result (out.new ≡ out.old ++ flat_map (flooded_to self.now) peers.now.entries) }
     {
         for (link, peer) in peers {
-            self.send_to(alloc, *link, peer, out)?;
+            self.send_to(*link, peer, out)?;
         }
         Ok(())
     }

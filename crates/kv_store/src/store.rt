@@ -1,16 +1,23 @@
-ghost use Rattle.std.specs.Prelude.{◌≡◌, ◌++◌, [], ◌∷◌, ◌<◌, ◌≤◌, ◌^◌, length, drop, if◌then◌else◌, is_ok, IsTrue, IfOk, OnOk};
+ghost use Rattle.std.specs.Prelude.{◌≡◌, ◌++◌, [], ◌∷◌, ◌<◌, ◌≤◌, ◌^◌, length, drop, is_ok, IsTrue, IfOk, OnOk};
 ghost use Rattle.or_base.specs.ByLink.{with_link, without_link};
 ghost use Rattle.or_actor.specs.Fits.{link_number_end};
-ghost use Rattle.kv_store.specs.declared.response.Response.TheVariants.{Nothing, Push};
+ghost use Rattle.or_base.specs.declared.kind.Kind.TheVariants.{Full};
+ghost use Rattle.kv_store.specs.Store.{response_to_reply, persisted_by, entries_told};
 
 use crate::answers::{push_on, send_on, start_each, start_with};
 use crate::floods::{Floods, own_keys, relayed_keys};
 use crate::offers::offer_all;
+use crate::own::{keys_to_write, refresh_each, write_each};
 use crate::response::{Remaining, Response};
+use kv_flood::flood_message;
+use kv_self::Owned;
 use kv_sync::{Sessions, ack, reply_to};
 use kv_table::KvTable;
-use or_actor::{Module, Outbox, has_small_link};
-use or_base::{Item, Key, Msg, Name, NoMemory, Origin, Pair, Seq, SyncDone, is_among};
+use or_actor::{DECISION_PORT, Module, Outbox, has_small_link};
+use or_base::{
+    Bytes, Item, JournalEntry, Key, Kind, Msg, Name, NoMemory, Origin, Pair, Seq, SyncDone,
+    is_among,
+};
 use std::alloc::Global;
 use std::collections::BTreeMap;
 use std::marker::Model;
@@ -25,8 +32,8 @@ fn one(alloc: Global, name: Name) -> Result<Seq<Name>, NoMemory>
 }
 
 /// What a reply wants is to be pushed where it arrived for its session.
-fn response_to_reply(arrived: bool, link: u32, wanted: Seq<Key>) -> Response
-    ensures { result ≡ (if arrived then Push link wanted else Nothing) }
+fn response_to_reply(link: u32, wanted: Seq<Key>, arrived: bool) -> Response
+    ensures { result ≡ response_to_reply link wanted arrived }
 {
     if arrived {
         Response::Push { link, wanted }
@@ -35,12 +42,40 @@ fn response_to_reply(arrived: bool, link: u32, wanted: Seq<Key>) -> Response
     }
 }
 
+/// The key that the item persists.
+fn persisted_by(alloc: Global, item: &Item) -> Result<Vec<Key>, NoMemory>
+    ensures { IfOk result (λ keys. keys.items ≡ persisted_by item.now) }
+{
+    let mut keys = Vec::new(alloc);
+    if let Item::Persist { key, .. } = item {
+        keys.push(key.copied()?)?;
+    }
+    Ok(keys)
+}
+
+/// Tells Decision of these entries, in order.
+fn tell_entries(entries: &[JournalEntry], out: &mut Outbox) -> Result<(), NoMemory>
+    ensures { OnOk result (out.new ≡ out.old ++ entries_told Full entries.now) }
+{
+    for entry in entries {
+        out.send(
+            DECISION_PORT,
+            Item::Entry {
+                entry: entry.copied()?,
+            },
+        )?;
+    }
+    Ok(())
+}
+
 /// A node's store.
 #[derive(Drop)]
 pub struct KvModule {
+    kind: Kind,
     me: Name,
     table: KvTable,
     moment: u64,
+    owned: Owned,
     peers: BTreeMap<u32, Name>,
     sessions: Sessions,
     stale: u64,
@@ -56,7 +91,7 @@ impl Model for KvModule {
 
     ghost Value = { StoreState };
 
-    ghost view = { λ m. record { me = m.me; journal = m.table; moment = m.moment; peers = m.peers.entries; sessions = m.sessions; stale = m.stale; done = m.done.items } };
+    ghost view = { λ m. record { kind = m.kind; me = m.me; journal = m.table; moment = m.moment; owned = m.owned; peers = m.peers.entries; sessions = m.sessions; stale = m.stale; done = m.done.items } };
 
     ghost invariant = { λ m. All (λ link. link < link_number_end) (keys m.peers) };
 }
@@ -68,18 +103,20 @@ impl KvModule {
     ghost use Rattle.or_actor.specs.Fits.{has_small_link, have_small_links};
     ghost use Rattle.kv_sync.specs.declared.session.SyncPhase.TheVariants.{Dumped, Pushed};
     ghost use Rattle.kv_sync.specs.Sessions.{without_session, without_sessions, current};
-    ghost use Rattle.kv_store.specs.Store.{new_store, store_after_offers, store_after_flood, with_stale_counted, store_after_reply, store_after_ack, message_change, item_change, respond, may_respond, floods, store_step};
+    ghost use Rattle.kv_self.specs.Owned.{with_owned, without_owned};
+    ghost use Rattle.kv_store.specs.Store.{new_store, store_after_tick, store_after_offers, store_after_flood, with_stale_counted, store_after_reply, store_after_ack, message_change, item_change, respond, may_respond, with_own_written, floods, store_step};
     ghost use Rattle.kv_store.specs.Response.{is_on_small_link};
-    ghost use Rattle.kv_table.specs.Expiry.{expire};
 
-    /// The store of a node as it starts.
-    pub fn new(alloc: Global, me: Name) -> Result<KvModule, NoMemory>
-        ensures { IfOk result (λ m. m ≡ new_store me) }
+    /// The store of a node as it starts, in a laboratory of this kind.
+    pub fn new(alloc: Global, kind: Kind, me: Name) -> Result<KvModule, NoMemory>
+        ensures { IfOk result (λ m. m ≡ new_store kind me) }
     {
         Ok(KvModule {
+            kind,
             me,
             table: KvTable::new(alloc)?,
             moment: 0,
+            owned: Owned::new(alloc),
             peers: BTreeMap::new(alloc),
             sessions: Sessions::new(alloc)?,
             stale: 0,
@@ -93,6 +130,13 @@ impl KvModule {
         ensures { result.now ≡ self.now.journal }
     {
         &self.table
+    }
+
+    /// The journal, as a vector. It takes no memory.
+    pub fn into_journal(self) -> Vec<JournalEntry>
+        ensures { result.items ≡ self.journal }
+    {
+        self.table.into_journal()
     }
 
     /// How many stale messages have arrived at the store. It takes no memory.
@@ -109,10 +153,12 @@ impl KvModule {
         self.done.as_slice()
     }
 
-    /// The moment is this, and what has reached its deadline is lost.
+    /// The moment is this: lifetimes under owned keys that are due begin anew, and then what has reached its deadline is lost.
     fn take_tick(&mut self, at: u64) -> Result<(), NoMemory>
-        ensures { OnOk result (self.new ≡ record self.old { moment = at; journal = expire self.old.journal at }) }
+        ensures { OnOk result (self.new ≡ store_after_tick self.old at) }
     {
+        let keys = self.owned.keys()?;
+        refresh_each(&self.owned, at, &mut self.table, keys)?;
         self.table.expire(at)?;
         self.moment = at;
         Ok(())
@@ -124,6 +170,21 @@ impl KvModule {
     {
         self.table.offer(pair, self.moment, Origin::Local)?;
         Ok(())
+    }
+
+    /// Owns a key with this value and lifetime.
+    fn persist(&mut self, key: Key, value: Bytes, ttl: Option<u64>) -> Result<(), NoMemory>
+        ensures { OnOk result (self.new ≡ record self.old { owned = with_owned self.old.owned key (record { value = value; ttl = ttl }) }) }
+    {
+        self.owned.persist(key, value, ttl)?;
+        Ok(())
+    }
+
+    /// Owns a key no more.
+    fn unset(&mut self, key: &Key)
+        ensures { self.new ≡ record self.old { owned = without_owned self.old.owned key.now } }
+    {
+        let _was_owned = self.owned.unset(key);
     }
 
     /// The node at the other end of a link can be reached.
@@ -223,7 +284,7 @@ impl KvModule {
         let none = Seq::from_vec(Vec::new(self.alloc));
         match msg {
             Msg::Flood { passed, pairs } => {
-                self.take_flood(passed.as_slice(), pairs.into_vec())?;
+                self.take_flood(passed.as_slice(), pairs.into_vec()?)?;
                 Ok(Remaining::new(Response::Nothing, passed))
             }
             Msg::Dump { session, digest } => {
@@ -241,13 +302,13 @@ impl KvModule {
                 wanted,
                 withheld,
             } => {
-                let pairs = pairs.into_vec();
+                let pairs = pairs.into_vec()?;
                 let arrived = self.take_reply(link, session, b0, pairs, withheld)?;
-                let push = response_to_reply(arrived, link, wanted);
+                let push = response_to_reply(link, wanted, arrived);
                 Ok(Remaining::new(push, one(self.alloc, from)?))
             }
             Msg::Push { session, pairs } => {
-                self.offer(pairs.into_vec(), Origin::SyncPush)?;
+                self.offer(pairs.into_vec()?, Origin::SyncPush)?;
                 let ack = Response::Ack { link, session };
                 Ok(Remaining::new(ack, one(self.alloc, from)?))
             }
@@ -255,7 +316,9 @@ impl KvModule {
                 self.take_ack(link, session)?;
                 Ok(Remaining::new(Response::Nothing, none))
             }
-            _other => Ok(Remaining::new(Response::Nothing, none)),
+            Msg::Hello { .. } | Msg::Handshake { .. } | Msg::Heartbeat => {
+                Ok(Remaining::new(Response::Nothing, none))
+            }
         }
     }
 
@@ -281,6 +344,8 @@ impl KvModule {
                 self.restart()?;
                 response = Response::StartAll;
             }
+            Item::Persist { key, value, ttl } => self.persist(key, value, ttl)?,
+            Item::Unset { key } => self.unset(&key),
             Item::Net { link, from, msg } => return Ok(self.take_message(link, from, msg)?),
             _other => {}
         }
@@ -339,29 +404,55 @@ impl KvModule {
         Ok(())
     }
 
+    /// Writes under the node's own keys, in a turn that persisted these keys and began with so many entries.
+    #[tactic(auto, using(crate::proofs::Written::nothing_written))]
+    fn write_own(&mut self, entries: usize, persisted: Vec<Key>) -> Result<(), NoMemory>
+        requires { entries ≤ length self.old.journal }
+        ensures { OnOk result (self.new ≡ with_own_written self.old persisted.items (drop entries self.old.journal)) }
+    {
+        if self.owned.is_empty() {
+            return Ok(());
+        }
+        let new = &self.table.journal()[entries..];
+        let keys = keys_to_write(&self.owned, persisted, new)?;
+        let now = self.moment;
+        write_each(&self.me, &self.owned, now, &mut self.table, keys)?;
+        Ok(())
+    }
+
     /// Floods what was merged since the journal had so many entries.
-    #[tactic(auto, unfolding(crate::specs::Store::floods))]
+    #[tactic(auto, using(crate::proofs::Peers::floods_made))]
     fn flood(&self, entries: usize, passed: &[Name], out: &mut Outbox) -> Result<(), NoMemory>
         requires { entries ≤ length self.now.journal }
         ensures { OnOk result (out.new ≡ out.old ++ floods self.now (drop entries self.now.journal) passed.now) }
     {
-        let new = &self.table.journal()[entries..];
-        let relayed = relayed_keys(self.alloc, new)?;
-        let own = own_keys(self.alloc, new)?;
+        let (alloc, table, now, me) = (self.alloc, &self.table, self.moment, &self.me);
+        let new = &table.journal()[entries..];
+        let relayed = relayed_keys(alloc, new)?;
+        let own = own_keys(alloc, new)?;
         let floods = Floods {
-            me: &self.me,
-            table: &self.table,
-            moment: self.moment,
-            relayed: relayed.as_slice(),
+            me,
             passed,
-            own: own.as_slice(),
+            relayed: flood_message(alloc, table, now, relayed.as_slice(), passed, me)?,
+            own: flood_message(alloc, table, now, own.as_slice(), &[], me)?,
         };
-        floods.send(self.alloc, &self.peers, out)?;
+        floods.send(&self.peers, out)?;
         Ok(())
     }
 
+    /// Tells Decision of the entries since the journal had so many, in a full node.
+    fn tell_decision(&self, entries: usize, out: &mut Outbox) -> Result<(), NoMemory>
+        requires { entries ≤ length self.now.journal }
+        ensures { OnOk result (out.new ≡ out.old ++ entries_told self.now.kind (drop entries self.now.journal)) }
+    {
+        match self.kind {
+            Kind::Stores => Ok(()),
+            Kind::Full => tell_entries(&self.table.journal()[entries..], out),
+        }
+    }
+
     /// One turn.
-    #[tactic(auto, unfolding(crate::specs::Store::store_step), using(crate::proofs::Growth::journal_grows, crate::proofs::Responding::responding, crate::proofs::Turn::turn))]
+    #[tactic(auto, unfolding(crate::specs::Store::store_step), using(crate::proofs::Growth::growing, crate::proofs::Responding::responding, crate::proofs::Turn::turn))]
     fn step(&mut self, item: Item, out: &mut Outbox) -> Result<(), NoMemory>
         requires { IsTrue (has_small_link item) }
         ensures state { OnOk result (self.new ≡ (store_step self.old item).0) }
@@ -369,9 +460,12 @@ impl KvModule {
         ensures small { OnOk result (IsTrue (have_small_links (store_step self.old item).1)) }
     {
         let entries = self.table.journal().len();
+        let persisted = persisted_by(self.alloc, &item)?;
         let Remaining { response, passed } = self.take(item)?;
+        self.write_own(entries, persisted)?;
         self.respond(response, out)?;
         self.flood(entries, passed.as_slice(), out)?;
+        self.tell_decision(entries, out)?;
         Ok(())
     }
 }

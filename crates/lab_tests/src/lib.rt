@@ -9,9 +9,13 @@
 
 pub mod fixtures;
 #[cfg(test)]
+mod owned;
+#[cfg(test)]
 mod prefixes;
 #[cfg(test)]
 mod records;
+#[cfg(test)]
+mod tables;
 #[cfg(test)]
 mod timers;
 #[cfg(test)]

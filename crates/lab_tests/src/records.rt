@@ -77,7 +77,7 @@ const PREFIXES: [(&str, &str); 5] = [
 /// The link record of a text, written again.
 fn link_again(alloc: Global, text: &str) -> Result<Vec<u8>, NoMemory> {
     match adj_of(alloc, text.as_bytes())? {
-        Some(db) => Ok(adj_text(alloc, &db)?.into_vec()),
+        Some(db) => Ok(adj_text(alloc, &db)?.into_vec()?),
         None => Ok(Vec::new(alloc)),
     }
 }
@@ -113,7 +113,7 @@ fn the_members_of_an_adjacency_are_its_fields(rt: HostRuntime) -> Result<(), Fai
 /// The prefix record of a text, written again.
 fn prefixes_again(alloc: Global, text: &str) -> Result<Vec<u8>, NoMemory> {
     match prefixes_of(alloc, text.as_bytes())? {
-        Some(db) => Ok(prefixes_text(alloc, &db)?.into_vec()),
+        Some(db) => Ok(prefixes_text(alloc, &db)?.into_vec()?),
         None => Ok(Vec::new(alloc)),
     }
 }

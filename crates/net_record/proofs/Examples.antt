@@ -54,7 +54,7 @@ journal =
     ∷ Merged (record { key = codes "x"; value = value_of 2 }) 0 Local ∷ []
 
 abbrev store : ActorState
-store = record { part = Module (Store (record (new_store (codes "a")) { journal = journal })); clock = 9; told = 0; made = 5 ∷ 5 ∷ 9 ∷ [] }
+store = record { part = Module (Store (record (new_store Stores (codes "a")) { journal = journal })); clock = 9; told = 0; made = 5 ∷ 5 ∷ 9 ∷ [] }
 
 abbrev question : ℕ → ℕ → Question
 question at seen = record { key = codes "x"; at = at; seen = seen }

@@ -1,14 +1,14 @@
 -- What settles tell of the full syncs that a store finished is the front of them all, which have numbers of their own.
 use Rattle.std.proofs.Common.{◌≡◌, ℕ, zero, suc, ◌+◌, ◌<◌, ◌≤◌, List, [], ◌∷◌, ◌++◌, Option, Some, None, Bool, true, false, ◌||◌, not, length, map, drop, get_or, set, refl, sym, ap, ◌∙◌, subst, arith, append_assoc, length-append}
-use Rattle.std.specs.Prelude.{◌≢◌, ◌&&◌, AllPairs, slice_get}
+use Rattle.std.specs.Prelude.{◌&&◌, AllPairs, slice_get}
 use Rattle.std.specs.List.{AllZip}
 use Rattle.std.proofs.lemmas.Bool.{leb-false}
 use Rattle.std.proofs.lemmas.Nat.{mul-le}
 use Rattle.std.proofs.lemmas.Grind.{flat_map-append}
 use Rattle.std.proofs.lemmas.List.{append-nil, length_push, get_or_append_left}
-use Rattle.std.proofs.lemmas.List.Elements.{All-map}
 use Rattle.std.proofs.Math.Seq.{drop-append_seam}
 use Rattle.or_base.specs.declared.item.Item.{Item}
+use Rattle.or_base.specs.declared.kind.Kind.TheVariants.{Stores}
 use Rattle.or_base.specs.declared.item.Stamped.{Stamped}
 use Rattle.or_base.specs.declared.session.SyncDone.{SyncDone}
 use Rattle.or_actor.specs.declared.output.Output.{Output}
@@ -35,7 +35,7 @@ use Rattle.net_record.specs.Answered.{no_mark}
 use Rattle.net_record.specs.World.{WorldState, start, waiting, turn, turn_of, turn_by, reader_of, is_drained, issue, settle, settle_done, greatest_clock}
 use Rattle.net_record.specs.Budget.{is_too_heavy, has_spent_turns, is_over}
 use Rattle.net_record.specs.Rounds.{longest, round_robin}
-use Rattle.net_record.specs.Syncs.{AreDistinct, syncs_told, SyncsDiffer}
+use Rattle.net_record.specs.Syncs.{syncs_told, SyncsDiffer}
 use Rattle.net_record.proofs.Found.{there}
 use Rattle.net_record.proofs.RoundTurns.{not_drained}
 use Rattle.net_record.proofs.Kept.{keep_round_robin}
@@ -134,8 +134,8 @@ told_turn w lane at over h =
 
 -- ---- the start, issues and settles
 
-fresh : (me : List ℕ) → IsToldOf 0 [] (record { told = 0; store = new_store me })
-fresh me = record { numbered = numbers_stay_apart.start me; left = []; all = refl; count = refl }
+fresh : (me : List ℕ) → IsToldOf 0 [] (record { told = 0; store = new_store Stores me })
+fresh me = record { numbered = numbers_stay_apart.start Stores me; left = []; all = refl; count = refl }
 
 start_head : (role : Role) (rest : List Teller) → ((place : ℕ) → IsToldOf 0 [] (teller_in rest place))
     → (place : ℕ) → IsToldOf 0 [] (teller_in (tellers_by 0 (store_of (new_part role)) ++ rest) place)
@@ -209,18 +209,11 @@ front_apart front rest apart i j d before within =
     subst (λ (s : SyncDone). HaveOwnNumbers s (get_or front j d)) one
     (subst (λ (s : SyncDone). HaveOwnNumbers (get_or (front ++ rest) i d) s) other (apart i j d before (omega (arith, within, long))))
 
-distinct : (syncs : List SyncDone) → AllPairs HaveOwnNumbers syncs → AreDistinct (map (λ sync. sync.session) syncs)
-distinct [] apart = tt
-distinct (sync ∷ syncs) apart = (
-  All-map (λ other. sync.session ≢ other) (λ sync. sync.session) syncs (λ k d within. apart 0 (suc k) d (omega arith) (omega (arith, within))),
-  distinct syncs (λ i j d before within. apart (suc i) (suc j) d (omega (arith, before)) (omega (arith, within))),
-)
-
-apart_where_few : (turns : ℕ) (syncs : List SyncDone) (t : Teller) → turns ≤ most_turns → IsToldOf turns syncs t → AreDistinct (map (λ sync. sync.session) syncs)
+apart_where_few : (turns : ℕ) (syncs : List SyncDone) (t : Teller) → turns ≤ most_turns → IsToldOf turns syncs t → AllPairs HaveOwnNumbers syncs
 apart_where_few turns syncs t few h =
     let square = mul-le turns turns most_turns most_turns few few in
     let apart = numbers_stay_apart.differ turns t.store h.numbered (omega (arith, square)) in
-    distinct syncs (front_apart syncs h.left (subst (AllPairs HaveOwnNumbers) h.all apart))
+    front_apart syncs h.left (subst (AllPairs HaveOwnNumbers) h.all apart)
 
 pub syncs_differ : SyncsDiffer
 syncs_differ lab place =

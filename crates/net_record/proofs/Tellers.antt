@@ -2,6 +2,7 @@
 use Rattle.std.proofs.Common.{◌≡◌, ℕ, zero, suc, ◌<◌, List, [], ◌∷◌, ◌++◌, drop, Option, Some, None, length, map, get_or, set, refl, ap, ◌∙◌, arith}
 use Rattle.std.specs.Option.{option_map_or}
 use Rattle.std.specs.List.{AllZip}
+use Rattle.or_base.specs.declared.kind.Kind.TheVariants.{Stores}
 use Rattle.or_base.specs.declared.session.SyncDone.{SyncDone}
 use Rattle.kv_store.specs.Store.{StoreState, new_store}
 use Rattle.net_record.specs.declared.part.Part.{Part}
@@ -29,7 +30,7 @@ tellers_of (actor ∷ actors) = tellers_by actor.told (store_of actor.part) ++ t
 
 -- one that stands where there is none
 abbrev pub no_teller : Teller
-no_teller = record { told = 0; store = new_store [] }
+no_teller = record { told = 0; store = new_store Stores [] }
 
 abbrev pub teller_in : List Teller → ℕ → Teller
 teller_in tellers place = get_or tellers place no_teller

@@ -3,6 +3,7 @@ use Rattle.std.specs.Prelude.{ℕ, zero, suc, ◌-◌, List, [], ◌++◌, lengt
 use Rattle.std.specs.Option.{option_map_or}
 use Rattle.or_base.specs.declared.entry.JournalEntry.{JournalEntry}
 use Rattle.or_base.specs.declared.item.Item.{Item}
+use Rattle.or_base.specs.declared.kind.Kind.TheVariants.{Stores}
 use Rattle.or_base.specs.declared.item.Stamped.{Stamped}
 use Rattle.or_actor.specs.declared.output.Output.{Output}
 use Rattle.or_actor.specs.Steps.{TurnMade, turn_made, finds_nothing}
@@ -22,9 +23,10 @@ use Rattle.net_record.specs.Desk.{DeskState, new_desk, key_asked, desk_after, de
 
 -- ---- what an actor is
 
--- a module of the node with this name, whose store is the actor with this number, as it starts
+-- A module of the node with this name, whose store is the actor with this number, as it starts. Decision isn't built yet, so that every
+-- store is one of kind stores.
 abbrev pub node_part : NodeModule → List ℕ → ℕ → Part
-node_part StoreRole node store = Module (Store (new_store node))
+node_part StoreRole node store = Module (Store (new_store Stores node))
 node_part DeskRole node store = Desk (new_desk node store)
 
 -- what an actor is as it starts

@@ -1,6 +1,6 @@
 -- How much a run may do.
 use Rattle.std.specs.Prelude.{ℕ, List, Bool, ◌&&◌, ◌||◌, ◌^◌, not, nat_lt, nat_le, length}
-use Rattle.or_base.specs.declared.item.TurnDone.{TurnDone}
+use Rattle.or_base.specs.TurnDone.{TurnDone}
 use Rattle.net_laboratory.specs.Limits.{most_turns}
 use Rattle.net_record.specs.declared.record.SettleDone.{SettleDone}
 use Rattle.net_record.specs.Weight.{weight_of}

@@ -6,7 +6,7 @@ ghost use Rattle.net_record.specs.Kinds.{store_in};
 use kv_store::KvModule;
 use net_link::LinkModule;
 use or_actor::{Module, Outbox};
-use or_base::{Item, NoMemory};
+use or_base::{Item, JournalEntry, NoMemory};
 
 /// A module of any kind that implements `Module`.
 #[derive(Drop)]
@@ -24,6 +24,16 @@ impl AnyModule {
     {
         match self {
             AnyModule::Store(store) => Some(store),
+            _other => None,
+        }
+    }
+
+    /// The journal of the store that it is, if it is one. It takes no memory.
+    pub(crate) fn into_journal(self) -> Option<Vec<JournalEntry>>
+        ensures { option_map (λ journal. journal.items) result ≡ option_map (λ s. s.journal) (store_in self) }
+    {
+        match self {
+            AnyModule::Store(store) => Some(store.into_journal()),
             _other => None,
         }
     }

@@ -7,7 +7,7 @@ use crate::role::{NodeModule, Role};
 use kv_store::KvModule;
 use net_link::LinkModule;
 use or_actor::{Module, Outbox, has_small_link};
-use or_base::{Item, JournalEntry, Name, NoMemory};
+use or_base::{Item, JournalEntry, Kind, Name, NoMemory};
 use std::alloc::Global;
 
 /// What an actor is.
@@ -26,7 +26,11 @@ fn node_part(alloc: Global, module_: NodeModule, node: Name, store: u32) -> Resu
     ensures { IfOk result (λ part. part ≡ node_part module_ node store) }
 {
     match module_ {
-        NodeModule::Store => Ok(Part::Module(AnyModule::Store(KvModule::new(alloc, node)?))),
+        NodeModule::Store => Ok(Part::Module(AnyModule::Store(KvModule::new(
+            alloc,
+            Kind::Stores,
+            node,
+        )?))),
         NodeModule::Desk => Ok(Part::Desk(Desk::new(alloc, node, store))),
     }
 }
@@ -62,6 +66,16 @@ impl Part {
     {
         match self {
             Part::Module(module_) => module_.store(),
+            _other => None,
+        }
+    }
+
+    /// The journal of the store that it is, if it is one. It takes no memory.
+    pub(crate) fn into_journal(self) -> Option<Vec<JournalEntry>>
+        ensures { option_map (λ journal. journal.items) result ≡ option_map (λ s. s.journal) (store_of self) }
+    {
+        match self {
+            Part::Module(module_) => module_.into_journal(),
             _other => None,
         }
     }

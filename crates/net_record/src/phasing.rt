@@ -1,10 +1,11 @@
 ghost use Rattle.std.specs.Prelude.{◌≡◌, ◌≤◌, ◌<◌, ◌^◌, ◌++◌, [], ◌∷◌, All, IsTrue, length, IfOk, OnOk};
+ghost use Rattle.or_base.specs.declared.item.Item.TheVariants.{Persist, Script};
 ghost use Rattle.or_actor.specs.declared.output.Output.TheVariants.{To};
 ghost use Rattle.or_actor.specs.Fits.{has_small_link, have_small_links};
 ghost use Rattle.net_laboratory.specs.Small.{NamesSmallLink};
 ghost use Rattle.net_laboratory.specs.Limits.{most_links};
 ghost use Rattle.net_record.specs.Roles.{roles, most_actors};
-ghost use Rattle.net_record.specs.Phases.{ups, module_takes_ticks, takes_ticks, tick_for, ticks, issues_of, moment_after, phases_from, phases};
+ghost use Rattle.net_record.specs.Phases.{ups, module_takes_ticks, takes_ticks, tick_for, ticks, to_module, to_link, issues_of, moment_after, phases_from, phases};
 ghost use Rattle.net_record.specs.Small.{IssuesSmallLinks};
 
 use crate::numbering::{link_number, module_number, roles};
@@ -12,7 +13,7 @@ use crate::phase::Phase;
 use crate::role::{NodeModule, Role};
 use net_laboratory::{Command, LinkDecl, Scenario};
 use or_actor::Output;
-use or_base::{Copied, Item, NoMemory, Seq};
+use or_base::{Act, Bytes, Copied, Item, Key, Name, NoMemory, Seq};
 use std::alloc::Global;
 
 /// An Up for each link.
@@ -90,6 +91,55 @@ fn add_to(issues: &mut Vec<Output>, lane: u32, item: Item) -> Result<(), NoMemor
     Ok(())
 }
 
+/// Adds an item for a module of the node with this name.
+fn add_to_module(
+    issues: &mut Vec<Output>,
+    all: &[Role],
+    module_: NodeModule,
+    node: &Name,
+    item: Item,
+) -> Result<(), NoMemory>
+    requires few { length all.now ≤ most_actors }
+    requires small { IsTrue (has_small_link item) }
+    ensures added { OnOk result (issues.new.items ≡ issues.old.items ++ to_module all.now module_ node.now item) }
+    ensures small { IsTrue (have_small_links issues.old.items) → OnOk result (IsTrue (have_small_links issues.new.items)) }
+{
+    add_to(issues, module_number(all, module_, node), item)
+}
+
+/// Adds an item for a link.
+fn add_to_link(
+    issues: &mut Vec<Output>,
+    all: &[Role],
+    link: u32,
+    item: Item,
+) -> Result<(), NoMemory>
+    requires few { length all.now ≤ most_actors }
+    requires small { IsTrue (has_small_link item) }
+    ensures added { OnOk result (issues.new.items ≡ issues.old.items ++ to_link all.now link item) }
+    ensures small { IsTrue (have_small_links issues.old.items) → OnOk result (IsTrue (have_small_links issues.new.items)) }
+{
+    add_to(issues, link_number(all, link), item)
+}
+
+/// What the driver sends to a store for a key that its node is to own.
+fn persist_item(key: &Key, value: &Bytes, ttl: Option<u64>) -> Result<Item, NoMemory>
+    ensures { IfOk result (λ item. item ≡ Persist key.now value.now ttl) }
+{
+    let key = key.copied()?;
+    let value = value.copied()?;
+    Ok(Item::Persist { key, value, ttl })
+}
+
+/// What it sends to a link for a script.
+fn script_item(from: &Name, acts: &Seq<Act>) -> Result<Item, NoMemory>
+    ensures { IfOk result (λ item. item ≡ Script from.now acts.now) }
+{
+    let from = from.copied()?;
+    let acts = acts.copied()?;
+    Ok(Item::Script { from, acts })
+}
+
 /// Adds what the driver sends for a command.
 #[tactic(auto, unfolding(crate::specs::Phases::issues_of))]
 fn add_issues(issues: &mut Vec<Output>, all: &[Role], command: &Command) -> Result<(), NoMemory>
@@ -102,38 +152,36 @@ fn add_issues(issues: &mut Vec<Output>, all: &[Role], command: &Command) -> Resu
         Command::Tick { to } => add_ticks(issues, *to, all)?,
         Command::Set { node, pair } => {
             let pair = pair.copied()?;
-            add_to(
-                issues,
-                module_number(all, NodeModule::Store, node),
-                Item::Set { pair },
-            )?;
+            add_to_module(issues, all, NodeModule::Store, node, Item::Set { pair })?;
         }
         Command::Sync { node, link } => {
-            add_to(
-                issues,
-                module_number(all, NodeModule::Store, node),
-                Item::Sync { link: *link },
-            )?;
+            let sync = Item::Sync { link: *link };
+            add_to_module(issues, all, NodeModule::Store, node, sync)?;
         }
-        Command::Restart { node } => add_to(
-            issues,
-            module_number(all, NodeModule::Store, node),
-            Item::Restart,
-        )?,
-        Command::Up { link } => add_to(issues, link_number(all, *link), Item::Up)?,
-        Command::Down { link } => add_to(issues, link_number(all, *link), Item::Down)?,
+        Command::Own {
+            node,
+            key,
+            value,
+            ttl,
+        } => {
+            let persist = persist_item(key, value, *ttl)?;
+            add_to_module(issues, all, NodeModule::Store, node, persist)?;
+        }
+        Command::Disown { node, key } => {
+            let key = key.copied()?;
+            add_to_module(issues, all, NodeModule::Store, node, Item::Unset { key })?;
+        }
+        Command::Restart { node } => {
+            add_to_module(issues, all, NodeModule::Store, node, Item::Restart)?;
+        }
+        Command::Up { link } => add_to_link(issues, all, *link, Item::Up)?,
+        Command::Down { link } => add_to_link(issues, all, *link, Item::Down)?,
         Command::Script { link, from, acts } => {
-            let from = from.copied()?;
-            let acts = acts.copied()?;
-            add_to(issues, link_number(all, *link), Item::Script { from, acts })?;
+            add_to_link(issues, all, *link, script_item(from, acts)?)?;
         }
         Command::Get { node, key } => {
             let key = key.copied()?;
-            add_to(
-                issues,
-                module_number(all, NodeModule::Desk, node),
-                Item::Get { key },
-            )?;
+            add_to_module(issues, all, NodeModule::Desk, node, Item::Get { key })?;
         }
         // The program runs no other command yet.
         _other => {}

@@ -38,14 +38,16 @@ pub fn marks_of(alloc: Global, actors: &[ActorState]) -> Result<Vec<NodeMark>, N
     Ok(marks)
 }
 
-/// Copies of the journals of the stores among the actors, in order.
-pub fn journals_of(alloc: Global, actors: &[ActorState]) -> Result<Vec<Seq<JournalEntry>>, NoMemory>
-    ensures { IfOk result (λ journals. journals.items ≡ journals_of actors.now) }
+/// The journals of the stores among the actors, in order. They are moved.
+pub fn journals_of(
+    alloc: Global,
+    actors: Vec<ActorState>,
+) -> Result<Vec<Seq<JournalEntry>>, NoMemory>
+    ensures { IfOk result (λ journals. journals.items ≡ journals_of actors.items) }
 {
     let mut journals = Vec::new(alloc);
     for actor in actors {
-        if let Some(store) = actor.part.store() {
-            let journal = copied_items(alloc, store.table().journal())?;
+        if let Some(journal) = actor.part.into_journal() {
             journals.push(Seq::from_vec(journal))?;
         }
     }

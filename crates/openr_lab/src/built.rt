@@ -20,6 +20,8 @@ fn is_command_built(command: &Command) -> bool
         Command::Settle { .. } => true,
         Command::Tick { .. } => true,
         Command::Set { .. } => true,
+        Command::Own { .. } => true,
+        Command::Disown { .. } => true,
         Command::Sync { .. } => true,
         Command::Restart { .. } => true,
         Command::Up { .. } => true,

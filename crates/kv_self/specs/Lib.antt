@@ -1,0 +1,4 @@
+pub mod Owned
+pub mod Change
+pub mod Refresh
+pub mod Law
