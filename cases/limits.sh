@@ -74,9 +74,9 @@ refuse_input "a key of 129 bytes" "3 number 11 TooLong" < <(key_of 129)
 # A node, and an own of a value: the field and its text.
 value_of() { echo "$lab"; echo "$node_a"; echo "$own_key\"$1\":\"$2\"}"; }
 
-accept "4,096 bytes in hexadecimal" 3 "$unbuilt" < <(value_of hex "$(times 4096 0f)")
+accept "4,096 bytes in hexadecimal" 0 "$settled" < <(value_of hex "$(times 4096 0f)")
 refuse_input "4,097 bytes in hexadecimal" "3 number 11 TooLong" < <(value_of hex "$(times 4097 0f)")
-accept "a text of 4,096 bytes in 2,048 characters" 3 "$unbuilt" < <(value_of text "$(times 2048 é)")
+accept "a text of 4,096 bytes in 2,048 characters" 0 "$settled" < <(value_of text "$(times 2048 é)")
 refuse_input "a text of 4,097 bytes" "3 number 11 TooLong" < <(value_of text "w$(times 2048 é)")
 
 # A script of so many acts.
