@@ -2,14 +2,17 @@ ghost use Rattle.std.specs.Prelude.{◌≡◌, ◌++◌, ◌∷◌, [], IfOk};
 ghost use Rattle.kv_flood.specs.Flooding.{flood_of, flood_message};
 
 use kv_table::KvTable;
-use or_base::{Key, Msg, Name, NoMemory, Pair, Seq, copied_items};
+use or_base::{Key, Msg, Name, NoMemory, Pair, Seq};
 use std::alloc::Global;
 
 /// The nodes that the flood has passed, followed by this one.
 fn passed_with(alloc: Global, passed: &[Name], me: &Name) -> Result<Vec<Name>, NoMemory>
     ensures { IfOk result (λ names. names.items ≡ passed.now ++ me.now ∷ []) }
 {
-    let mut names = copied_items(alloc, passed)?;
+    let mut names = Vec::with_capacity(alloc, passed.len() + 1)?;
+    for name in passed {
+        names.push(name.copied()?)?;
+    }
     names.push(me.copied()?)?;
     Ok(names)
 }

@@ -5,3 +5,4 @@ pub mod Starting
 pub mod Responding
 pub mod Turn
 pub mod Numbered
+pub mod Origins

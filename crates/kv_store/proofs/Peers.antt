@@ -1,10 +1,12 @@
 -- Floods to the peers of a store, whose links have small numbers.
-use Rattle.std.proofs.Common.{◌≡◌, ℕ, ◌<◌, ◌^◌, List, [], ◌∷◌, ◌++◌, Option, Some, None, Result, Ok, Err, Bool, true, false, ◌&&◌, if◌then◌else◌, refl, sym, ◌∙◌, ap, append_assoc, arith}
+use Rattle.std.proofs.Common.{◌≡◌, ℕ, ◌<◌, ◌^◌, List, [], ◌∷◌, ◌++◌, Option, Some, None, Result, Ok, Err, Bool, true, false, ◌&&◌, if◌then◌else◌, refl, sym, ◌∙◌, ap, append_assoc, arith, drop, length}
 use Rattle.std.specs.Prelude.{All}
 use Rattle.std.specs.List.{flat_map}
 use Rattle.std.specs.Map.{keys_of, remove_entry}
 use Rattle.std.specs.Ordering.{nat_cmp}
 use Rattle.std.specs.BTreeMap.{insert_entry, is_at}
+use Rattle.std.proofs.Math.Seq.{drop-length}
+use Rattle.std.proofs.lemmas.List.{append-nil}
 use Rattle.std.proofs.lemmas.List.Elements.{All-head, All-tail, All-same}
 use Rattle.std.proofs.lemmas.List.Folds.{list_all-append}
 use Rattle.std.proofs.lemmas.Bool.{ltb-true}
@@ -78,6 +80,18 @@ pub floods_made : (s : StoreState) (entries : List JournalEntry) (passed : List 
     → flat_map (floods_to s.me passed relayed own) s.peers ≡ floods s entries passed
 unfolding floods
 floods_made s entries passed relayed own r o = rw (r, o) refl
+
+no_floods : (me : List ℕ) (passed : List (List ℕ)) (peers : List (ℕ × List ℕ)) → flat_map (floods_to me passed None None) peers ≡ []
+no_floods me passed [] = refl
+no_floods me passed (peer ∷ peers) = no_floods me passed peers
+
+-- a turn that appended nothing floods nothing
+pub nothing_flooded : (s : StoreState) (entries : ℕ) (passed : List (List ℕ)) (out : List Output) → length s.journal ≡ entries
+    → out ≡ out ++ floods s (drop entries s.journal) passed
+unfolding floods own_keys relayed_keys flood_message
+nothing_flooded s entries passed out e =
+    let none : floods s (drop entries s.journal) passed ≡ [] = rw (sym e, drop-length s.journal) (no_floods s.me passed s.peers) in
+    sym (ap (λ os. out ++ os) none ∙ append-nil out)
 
 -- ---- the peers
 

@@ -97,12 +97,12 @@ pub record Change : Type 0 where
   pub passed : List (List ℕ)
 
 -- the store becomes this one and has to respond so; the item brings nothing that another node flooded
-abbrev pub responding : StoreState → Response → Change
-responding s response = record { store = s; response = response; passed = [] }
+abbrev pub change_with_response : StoreState → Response → Change
+change_with_response s response = record { store = s; response = response; passed = [] }
 
 -- the store becomes this one, and nothing is to be responded
 abbrev pub change_to : StoreState → Change
-change_to s = responding s Nothing
+change_to s = change_with_response s Nothing
 
 -- the store becomes this one and has to respond so to pairs whose flood has passed these nodes
 abbrev pub change_by : StoreState → Response → List (List ℕ) → Change
@@ -115,7 +115,7 @@ store_after_tick s at = record s { moment = at; journal = expire (refresh_each s
 -- each message of the node `from`; the last three are of Spark, and a store doesn't take them
 abbrev pub message_change : StoreState → ℕ → List ℕ → Msg → Change
 message_change s link from (Flood passed pairs) = change_by (store_after_flood s passed pairs) Nothing passed
-message_change s link from (msg.Dump session digest) = responding s (Reply link session digest)
+message_change s link from (msg.Dump session digest) = change_with_response s (Reply link session digest)
 message_change s link from (msg.Reply session b0 pairs wanted withheld) =
     change_by (store_after_reply s link b0 pairs withheld (current s.sessions link session Dumped))
     (response_to_reply link wanted (is_ok (current s.sessions link session Dumped))) (from ∷ [])
@@ -129,10 +129,10 @@ message_change s link from Heartbeat = change_to s
 unfoldable pub item_change : StoreState → Item → Change
 item_change s (Tick at) = change_to (store_after_tick s at)
 item_change s (Set pair) = change_to (record s { journal = offer s.journal pair s.moment origin.Local })
-item_change s (PeerUp link peer) = responding (record s { peers = with_link s.peers link peer }) (Start link)
+item_change s (PeerUp link peer) = change_with_response (record s { peers = with_link s.peers link peer }) (Start link)
 item_change s (PeerDown link) = change_to (record s { peers = without_link s.peers link; sessions = without_session s.sessions link })
-item_change s (Sync link) = responding s (Start link)
-item_change s Restart = responding (record s { journal = s.journal ++ Cleared s.moment ∷ []; sessions = without_sessions s.sessions }) StartAll
+item_change s (Sync link) = change_with_response s (Start link)
+item_change s Restart = change_with_response (record s { journal = s.journal ++ Cleared s.moment ∷ []; sessions = without_sessions s.sessions }) StartAll
 item_change s (Persist key value ttl) = change_to (record s { owned = with_owned s.owned key (record { value = value; ttl = ttl }) })
 item_change s (Unset key) = change_to (record s { owned = without_owned s.owned key })
 item_change s (Net link from msg) = message_change s link from msg
@@ -272,7 +272,31 @@ with_own_written s persisted entries = record s { journal = write_each s.me s.ow
 -- the key that an item persists
 abbrev pub persisted_by : Item → List (List ℕ)
 persisted_by (Persist key value ttl) = key ∷ []
-persisted_by _ = []
+persisted_by Up = []
+persisted_by Down = []
+persisted_by (Script from acts) = []
+persisted_by (Tick at) = []
+persisted_by (Set pair) = []
+persisted_by (Sync link) = []
+persisted_by Restart = []
+persisted_by (Unset key) = []
+persisted_by (Drain on) = []
+persisted_by (LinkDrain link on) = []
+persisted_by (Metric link metric) = []
+persisted_by (Advertise entry) = []
+persisted_by (Withdraw prefix) = []
+persisted_by (Aggregate prefix least) = []
+persisted_by (Get key) = []
+persisted_by (Ask prefix) = []
+persisted_by (LinkUp link) = []
+persisted_by (LinkDown link) = []
+persisted_by (NeighbourUp link peer peer_if) = []
+persisted_by (NeighbourDown link) = []
+persisted_by (PeerUp link peer) = []
+persisted_by (PeerDown link) = []
+persisted_by (Net link from msg) = []
+persisted_by (Entry entry) = []
+persisted_by (Routes delta) = []
 
 -- the store after an item and after what its node writes then
 abbrev pub store_after_item : StoreState → Item → StoreState

@@ -1,42 +1,18 @@
 //! What a turn floods: which keys, to whom, and in which order.
 
-ghost use Rattle.std.specs.Prelude.{◌≡◌, ◌++◌, ◌<◌, All, Some, IfOk, OnOk};
+ghost use Rattle.std.specs.Prelude.{◌≡◌, ◌++◌, ◌∷◌, [], ◌<◌, All, Some, IfOk, OnOk};
 ghost use Rattle.std.specs.List.{flat_map};
 ghost use Rattle.std.specs.Map.{keys_of};
 ghost use Rattle.or_actor.specs.Fits.{link_number_end};
-ghost use Rattle.kv_store.specs.Store.{merge_origin, last_origin, begins_here, is_own, own_keys, relayed_keys, message_on, relay_to};
+ghost use Rattle.kv_store.specs.Store.{begins_here, own_keys, relayed_keys, message_on, relay_to};
+ghost use Rattle.kv_store.specs.Origins.{with_entry, origins_of, begun_keys, other_keys};
 
 use crate::answers::send_on;
 use kv_flood::flood_target;
 use or_actor::Outbox;
-use or_base::{JournalEntry, Key, Msg, Name, NoMemory, Origin, held_keys};
+use or_base::{JournalEntry, Key, Msg, Name, NoMemory, Origin};
 use std::alloc::Global;
 use std::collections::BTreeMap;
-
-/// The origin with which the entry merged the key, if it did.
-fn merge_origin(entry: &JournalEntry, key: &Key) -> Option<Origin>
-    ensures { result ≡ merge_origin key.now entry.now }
-{
-    if let JournalEntry::Merged { pair, origin, .. } = entry {
-        if pair.key.as_str() == key.as_str() {
-            return Some(*origin);
-        }
-    }
-    None
-}
-
-/// The origin of the last of these entries that merged the key.
-fn last_origin(entries: &[JournalEntry], key: &Key) -> Option<Origin>
-    ensures { result ≡ last_origin key.now entries.now }
-{
-    let mut found = None;
-    for entry in entries {
-        if let Some(origin) = merge_origin(entry, key) {
-            found = Some(origin);
-        }
-    }
-    found
-}
 
 /// The origin is this node's own wish.
 fn begins_here(origin: Origin) -> bool
@@ -45,43 +21,97 @@ fn begins_here(origin: Origin) -> bool
     matches!(origin, Origin::Local | Origin::Own)
 }
 
-/// The key was merged at this node's own wish.
-#[tactic(auto, unfolding(crate::specs::Store::is_own))]
-fn is_own(entries: &[JournalEntry], key: &Key) -> bool
-    ensures { result ≡ is_own entries.now key.now }
+/// The origins by key, after one entry more.
+fn take_entry(origins: &mut BTreeMap<Key, Origin>, entry: &JournalEntry) -> Result<(), NoMemory>
+    ensures { OnOk result (origins.new.entries ≡ with_entry origins.old.entries entry.now) }
 {
-    match last_origin(entries, key) {
-        Some(origin) => begins_here(origin),
-        None => false,
+    match entry {
+        JournalEntry::Merged { pair, origin, .. } => {
+            origins.insert(pair.key.copied()?, *origin)?;
+        }
+        JournalEntry::Expired { key, .. } => {
+            let _origin = origins.remove(key);
+        }
+        JournalEntry::Cleared { .. } => origins.clear(),
     }
+    Ok(())
 }
 
-/// The keys of a turn's entries that were merged at this node's own wish.
-#[tactic(auto, unfolding(crate::specs::Store::own_keys))]
-pub fn own_keys(alloc: Global, entries: &[JournalEntry]) -> Result<Vec<Key>, NoMemory>
-    ensures { IfOk result (λ keys. keys.items ≡ own_keys entries.now) }
+/// The keys that a turn's entries hold, read as a journal, each with the origin of its merge.
+fn origins_of(alloc: Global, entries: &[JournalEntry]) -> Result<BTreeMap<Key, Origin>, NoMemory>
+    ensures { IfOk result (λ origins. origins.entries ≡ origins_of entries.now) }
 {
-    let mut keys = Vec::new(alloc);
-    for key in held_keys(alloc, entries)? {
-        if is_own(entries, &key) {
-            keys.push(key)?;
+    let mut origins = BTreeMap::new(alloc);
+    for entry in entries {
+        take_entry(&mut origins, entry)?;
+    }
+    Ok(origins)
+}
+
+/// The keys that a turn floods.
+#[derive(Drop)]
+pub struct TurnKeys {
+    /// Those that were merged at this node's own wish.
+    pub own: Vec<Key>,
+    /// The others.
+    pub relayed: Vec<Key>,
+}
+
+/// The keys of these origins, by where they begin.
+fn parted(alloc: Global, origins: BTreeMap<Key, Origin>) -> Result<TurnKeys, NoMemory>
+    ensures own { IfOk result (λ keys. keys.own.items ≡ begun_keys origins.entries) }
+    ensures relayed { IfOk result (λ keys. keys.relayed.items ≡ other_keys origins.entries) }
+{
+    let mut own = Vec::new(alloc);
+    let mut relayed = Vec::new(alloc);
+    for (key, origin) in origins {
+        if begins_here(origin) {
+            own.push(key)?;
+        } else {
+            relayed.push(key)?;
         }
     }
+    Ok(TurnKeys { own, relayed })
+}
+
+/// The keys of several entries of a turn. It costs a few steps in an ordered map for each entry.
+#[tactic(auto, using(crate::proofs::Origins::parting))]
+fn keys_of_all(alloc: Global, entries: &[JournalEntry]) -> Result<TurnKeys, NoMemory>
+    ensures own { IfOk result (λ keys. keys.own.items ≡ own_keys entries.now) }
+    ensures relayed { IfOk result (λ keys. keys.relayed.items ≡ relayed_keys entries.now) }
+{
+    let origins = origins_of(alloc, entries)?;
+    let keys = parted(alloc, origins)?;
     Ok(keys)
 }
 
-/// The other keys of a turn's entries.
-#[tactic(auto, unfolding(crate::specs::Store::relayed_keys))]
-pub fn relayed_keys(alloc: Global, entries: &[JournalEntry]) -> Result<Vec<Key>, NoMemory>
-    ensures { IfOk result (λ keys. keys.items ≡ relayed_keys entries.now) }
+/// The key of the only entry of a turn, if it merged one.
+#[tactic(auto, using(crate::proofs::Origins::of_one))]
+fn keys_of_one(alloc: Global, entry: &JournalEntry) -> Result<TurnKeys, NoMemory>
+    ensures own { IfOk result (λ keys. keys.own.items ≡ own_keys (entry.now ∷ [])) }
+    ensures relayed { IfOk result (λ keys. keys.relayed.items ≡ relayed_keys (entry.now ∷ [])) }
 {
-    let mut keys = Vec::new(alloc);
-    for key in held_keys(alloc, entries)? {
-        if !is_own(entries, &key) {
-            keys.push(key)?;
+    let mut own = Vec::new(alloc);
+    let mut relayed = Vec::new(alloc);
+    if let JournalEntry::Merged { pair, origin, .. } = entry {
+        if begins_here(*origin) {
+            own.push(pair.key.copied()?)?;
+        } else {
+            relayed.push(pair.key.copied()?)?;
         }
     }
-    Ok(keys)
+    Ok(TurnKeys { own, relayed })
+}
+
+/// The keys of a turn's entries. A turn with one entry, as most are, needs no map.
+pub fn turn_keys(alloc: Global, entries: &[JournalEntry]) -> Result<TurnKeys, NoMemory>
+    ensures own { IfOk result (λ keys. keys.own.items ≡ own_keys entries.now) }
+    ensures relayed { IfOk result (λ keys. keys.relayed.items ≡ relayed_keys entries.now) }
+{
+    match entries {
+        [entry] => keys_of_one(alloc, entry),
+        _ => keys_of_all(alloc, entries),
+    }
 }
 
 /// Sends a copy of a message on a link, if there is one.

@@ -4,14 +4,14 @@ ghost use Rattle.kv_store.specs.Store.{offer_all};
 use kv_table::KvTable;
 use or_base::{NoMemory, Origin, Pair};
 
-/// Offers pairs, in order.
+/// Offers pairs, in order. Only those that are merged are copied.
 pub fn offer_all(
     table: &mut KvTable,
-    pairs: Vec<Pair>,
+    pairs: &[Pair],
     now: u64,
     origin: Origin,
 ) -> Result<(), NoMemory>
-    ensures { OnOk result (table.new ≡ offer_all table.old pairs.items now origin) }
+    ensures { OnOk result (table.new ≡ offer_all table.old pairs.now now origin) }
 {
     for pair in pairs {
         table.offer(pair, now, origin)?;

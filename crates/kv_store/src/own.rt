@@ -24,7 +24,7 @@ fn offer_own(
     ensures { OnOk result (table.new ≡ offer_own table.old key now value) }
 {
     if let Some(value) = value {
-        table.offer(Pair { key, value }, now, Origin::Own)?;
+        table.offer(&Pair { key, value }, now, Origin::Own)?;
     }
     Ok(())
 }

@@ -5,7 +5,7 @@ ghost use Rattle.or_base.specs.declared.kind.Kind.TheVariants.{Full};
 ghost use Rattle.kv_store.specs.Store.{response_to_reply, persisted_by, entries_told};
 
 use crate::answers::{push_on, send_on, start_each, start_with};
-use crate::floods::{Floods, own_keys, relayed_keys};
+use crate::floods::{Floods, TurnKeys, turn_keys};
 use crate::offers::offer_all;
 use crate::own::{keys_to_write, refresh_each, write_each};
 use crate::response::{Remaining, Response};
@@ -168,7 +168,7 @@ impl KvModule {
     fn take_set(&mut self, pair: Pair) -> Result<(), NoMemory>
         ensures { OnOk result (self.new ≡ record self.old { journal = offer self.old.journal pair self.old.moment Local }) }
     {
-        self.table.offer(pair, self.moment, Origin::Local)?;
+        self.table.offer(&pair, self.moment, Origin::Local)?;
         Ok(())
     }
 
@@ -216,15 +216,15 @@ impl KvModule {
     }
 
     /// Offers pairs that came from a peer, in order.
-    fn offer(&mut self, pairs: Vec<Pair>, origin: Origin) -> Result<(), NoMemory>
-        ensures { OnOk result (self.new ≡ store_after_offers self.old pairs.items origin) }
+    fn offer(&mut self, pairs: &[Pair], origin: Origin) -> Result<(), NoMemory>
+        ensures { OnOk result (self.new ≡ store_after_offers self.old pairs.now origin) }
     {
         offer_all(&mut self.table, pairs, self.moment, origin)
     }
 
     /// Takes a flood.
-    fn take_flood(&mut self, passed: &[Name], pairs: Vec<Pair>) -> Result<(), NoMemory>
-        ensures { OnOk result (self.new ≡ store_after_flood self.old passed.now pairs.items) }
+    fn take_flood(&mut self, passed: &[Name], pairs: &[Pair]) -> Result<(), NoMemory>
+        ensures { OnOk result (self.new ≡ store_after_flood self.old passed.now pairs.now) }
     {
         if is_among(&self.me, passed) {
             return Ok(());
@@ -245,10 +245,10 @@ impl KvModule {
         link: u32,
         session: u64,
         b0: u64,
-        pairs: Vec<Pair>,
+        pairs: &[Pair],
         withheld: u64,
     ) -> Result<bool, NoMemory>
-        ensures state { OnOk result (self.new ≡ store_after_reply self.old link b0 pairs.items withheld (current self.old.sessions link session Dumped)) }
+        ensures state { OnOk result (self.new ≡ store_after_reply self.old link b0 pairs.now withheld (current self.old.sessions link session Dumped)) }
         ensures arrived { IfOk result (λ arrived. arrived ≡ is_ok (current self.old.sessions link session Dumped)) }
     {
         match self.sessions.take_reply(link, session, b0, withheld) {
@@ -284,7 +284,7 @@ impl KvModule {
         let none = Seq::from_vec(Vec::new(self.alloc));
         match msg {
             Msg::Flood { passed, pairs } => {
-                self.take_flood(passed.as_slice(), pairs.into_vec()?)?;
+                self.take_flood(passed.as_slice(), pairs.as_slice())?;
                 Ok(Remaining::new(Response::Nothing, passed))
             }
             Msg::Dump { session, digest } => {
@@ -302,13 +302,13 @@ impl KvModule {
                 wanted,
                 withheld,
             } => {
-                let pairs = pairs.into_vec()?;
+                let pairs = pairs.as_slice();
                 let arrived = self.take_reply(link, session, b0, pairs, withheld)?;
                 let push = response_to_reply(link, wanted, arrived);
                 Ok(Remaining::new(push, one(self.alloc, from)?))
             }
             Msg::Push { session, pairs } => {
-                self.offer(pairs.into_vec()?, Origin::SyncPush)?;
+                self.offer(pairs.as_slice(), Origin::SyncPush)?;
                 let ack = Response::Ack { link, session };
                 Ok(Remaining::new(ack, one(self.alloc, from)?))
             }
@@ -366,22 +366,21 @@ impl KvModule {
         match response {
             Response::Nothing => {}
             Response::Start { link } => {
+                self.table.keep_hashes()?;
                 if let Some(peer) = self.peers.get(&link) {
                     start_with(&self.me, &self.table, &mut self.sessions, link, peer, out)?;
                 }
             }
-            Response::StartAll => start_each(
-                &self.me,
-                &self.table,
-                &mut self.sessions,
-                &self.peers,
-                out,
-            )?,
+            Response::StartAll => {
+                self.table.keep_hashes()?;
+                start_each(&self.me, &self.table, &mut self.sessions, &self.peers, out)?;
+            }
             Response::Reply {
                 link,
                 session,
                 digest,
             } => {
+                self.table.keep_hashes()?;
                 let rows = digest.as_slice();
                 let msg = reply_to(self.alloc, &self.table, self.moment, session, rows)?;
                 send_on(&self.me, link, msg, out)?;
@@ -420,16 +419,20 @@ impl KvModule {
         Ok(())
     }
 
-    /// Floods what was merged since the journal had so many entries.
+    /// Floods the keys of the entries since the journal had so many.
     #[tactic(auto, using(crate::proofs::Peers::floods_made))]
-    fn flood(&self, entries: usize, passed: &[Name], out: &mut Outbox) -> Result<(), NoMemory>
+    fn flood_entries(
+        &self,
+        entries: usize,
+        passed: &[Name],
+        out: &mut Outbox,
+    ) -> Result<(), NoMemory>
         requires { entries ≤ length self.now.journal }
         ensures { OnOk result (out.new ≡ out.old ++ floods self.now (drop entries self.now.journal) passed.now) }
     {
         let (alloc, table, now, me) = (self.alloc, &self.table, self.moment, &self.me);
         let new = &table.journal()[entries..];
-        let relayed = relayed_keys(alloc, new)?;
-        let own = own_keys(alloc, new)?;
+        let TurnKeys { own, relayed } = turn_keys(alloc, new)?;
         let floods = Floods {
             me,
             passed,
@@ -438,6 +441,18 @@ impl KvModule {
         };
         floods.send(&self.peers, out)?;
         Ok(())
+    }
+
+    /// Floods what was merged since the journal had so many entries, if it has more.
+    #[tactic(auto, using(crate::proofs::Peers::nothing_flooded))]
+    fn flood(&self, entries: usize, passed: &[Name], out: &mut Outbox) -> Result<(), NoMemory>
+        requires { entries ≤ length self.now.journal }
+        ensures { OnOk result (out.new ≡ out.old ++ floods self.now (drop entries self.now.journal) passed.now) }
+    {
+        if self.table.journal().len() == entries {
+            return Ok(());
+        }
+        self.flood_entries(entries, passed, out)
     }
 
     /// Tells Decision of the entries since the journal had so many, in a full node.

@@ -1,4 +1,7 @@
-pub mod Places
+pub mod InOrder
+pub mod Walking
+pub mod HeldRows
+pub mod Compared
 pub mod Numbers
 pub mod Written
 pub mod Current

@@ -1,5 +1,6 @@
 pub mod Difference
-pub mod Places
+pub mod Rows
+pub mod Walk
 pub mod Sessions
 pub mod Running
 pub mod Messages

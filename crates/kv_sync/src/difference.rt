@@ -1,15 +1,15 @@
-ghost use Rattle.std.specs.Prelude.{◌≡◌, IfOk};
-ghost use Rattle.std.specs.Option.{option_map};
-ghost use Rattle.or_base.specs.Journal.{held_value};
+ghost use Rattle.std.specs.Prelude.{◌≡◌, ◌<◌, ◌++◌, ◌∷◌, [], map, length, if◌then◌else◌, IfOk, OnOk};
+ghost use Rattle.std.specs.Ordering.{ordering_reverse};
 ghost use Rattle.kv_value.specs.Hashing.{hash_of};
-ghost use Rattle.kv_sync.specs.Difference.{row_for, rank_cmp, is_better, is_wanted, is_better_than, is_wanted_over, better_keys, wanted_keys};
-ghost use Rattle.kv_sync.specs.Places.{ArePlacesOf};
+ghost use Rattle.kv_sync.specs.Difference.{rank_cmp, is_better, is_wanted, better_keys, wanted_keys};
+ghost use Rattle.kv_sync.specs.Rows.{row_key, AreInOrder, AreInKeyOrder};
+ghost use Rattle.kv_sync.specs.Walk.{held_key, HaveTheirHashes, is_better_row, is_wanted_row, better_among, wanted_among, passes_at, left_of};
 
-use kv_table::KvTable;
+use crate::rows::{are_in_key_order, rows_in_order};
+use kv_table::{HeldRow, KvTable};
 use or_base::{DigestRow, Key, KvValue, NoMemory};
 use std::alloc::Global;
 use std::cmp::Ordering;
-use std::collections::BTreeMap;
 
 /// How a digest differs from what a table holds. Both lists are in byte order.
 #[derive(Drop)]
@@ -18,33 +18,6 @@ pub struct Difference {
     pub better: Vec<Key>,
     /// The keys whose values the digest's sender should give.
     pub wanted: Vec<Key>,
-}
-
-/// For each key of the rows, the place of the first row that names it. The rows may come in any order.
-#[tactic(auto, using(crate::proofs::Places::places_onto_last))]
-fn places_of(alloc: Global, rows: &[DigestRow]) -> Result<BTreeMap<Key, usize>, NoMemory>
-    ensures { IfOk result (λ places. ArePlacesOf rows.now places.entries) }
-{
-    let mut places = BTreeMap::new(alloc);
-    let mut left = rows;
-    while let Some((row, others)) = left.split_last() {
-        places.insert(row.key.copied()?, others.len())?;
-        left = others;
-    }
-    Ok(places)
-}
-
-/// The row of the key, which its place tells.
-fn row_at<'a>(
-    rows: &'a [DigestRow],
-    places: &BTreeMap<Key, usize>,
-    key: &Key,
-) -> Option<&'a DigestRow>
-    requires { ArePlacesOf rows.now places.now.entries }
-    ensures { option_map (λ row. row.now) result ≡ row_for rows.now key.now }
-{
-    let place = places.get(key)?;
-    rows.get(*place)
 }
 
 /// Compares a held value with a row of its key, by version and originator.
@@ -56,106 +29,130 @@ fn rank_cmp(v: &KvValue, row: &DigestRow) -> Ordering
         .then_with(|| v.originator.as_str().cmp(&row.originator.as_str()))
 }
 
-/// Whether what is held is worth sending to a store with this row.
-#[tactic(auto, unfolding(crate::specs::Difference::is_better))]
-fn is_better(v: &KvValue, hash: u64, row: &DigestRow) -> bool
-    requires { hash ≡ hash_of v.now }
-    ensures { result ≡ is_better v.now row.now }
+/// Whether the held value is worth sending to a store with this row of its key, and whether what the row stands for is
+/// worth having.
+#[tactic(auto, unfolding(crate::specs::Difference::is_better, crate::specs::Difference::is_wanted))]
+fn compare_values(held: &HeldRow<'_>, row: &DigestRow) -> (bool, bool)
+    requires { held.now.hash ≡ hash_of held.now.value.now }
+    ensures { result ≡ (is_better held.now.value.now row.now, is_wanted held.now.value.now row.now) }
 {
+    let v = held.value;
     match rank_cmp(v, row) {
-        Ordering::Less => false,
-        Ordering::Equal => hash != row.hash || row.ttl_version < v.ttl_version,
-        Ordering::Greater => true,
+        Ordering::Less => (false, true),
+        Ordering::Equal => {
+            let differs = held.hash != row.hash;
+            (
+                differs || row.ttl_version < v.ttl_version,
+                differs || v.ttl_version < row.ttl_version,
+            )
+        }
+        Ordering::Greater => (true, false),
     }
 }
 
-/// Whether what the row stands for is worth having beside what is held.
-#[tactic(auto, unfolding(crate::specs::Difference::is_wanted))]
-fn is_wanted(v: &KvValue, hash: u64, row: &DigestRow) -> bool
-    requires { hash ≡ hash_of v.now }
-    ensures { result ≡ is_wanted v.now row.now }
+/// Whether the held row's key is better, and whether the row's is wanted, where both are the first that are left and
+/// their keys compare so.
+fn compare_firsts(order: Ordering, held: &HeldRow<'_>, row: &DigestRow) -> (bool, bool)
+    requires { held.now.hash ≡ hash_of held.now.value.now }
+    ensures { result ≡ (
+      passes_at order is_better_row held.now row.now,
+      passes_at (ordering_reverse order) is_wanted_row row.now held.now,
+    ) }
 {
-    match rank_cmp(v, row) {
-        Ordering::Less => true,
-        Ordering::Equal => hash != row.hash || v.ttl_version < row.ttl_version,
-        Ordering::Greater => false,
+    match order {
+        Ordering::Less => (true, false),
+        Ordering::Equal => compare_values(held, row),
+        Ordering::Greater => (false, true),
     }
 }
 
-/// Whether the key is held, and its row, if there is one, isn't better.
-fn is_better_than(table: &KvTable, key: &Key, row: Option<&DigestRow>) -> bool
-    ensures { result ≡ is_better_than (held_value table.now key.now) (option_map (λ r. r.now) row.entry) }
+/// Appends the key, if it is to be.
+fn add_if(keys: &mut Vec<Key>, is_added: bool, key: &Key) -> Result<(), NoMemory>
+    ensures { OnOk result (keys.new.items ≡ keys.old.items ++ (if is_added then key.now ∷ [] else [])) }
 {
-    match table.value_with_hash(key) {
-        None => false,
-        Some((value, hash)) => match row {
-            None => true,
-            Some(row) => is_better(value, hash, row),
-        },
+    if is_added {
+        keys.push(key.copied()?)?;
     }
+    Ok(())
 }
 
-/// Whether the key has a row, and what is held under it, if something is, isn't better.
-fn is_wanted_over(table: &KvTable, key: &Key, row: Option<&DigestRow>) -> bool
-    ensures { result ≡ is_wanted_over (held_value table.now key.now) (option_map (λ r. r.now) row.entry) }
+/// Appends the keys of the held rows.
+fn add_held(keys: &mut Vec<Key>, held: &[HeldRow<'_>]) -> Result<(), NoMemory>
+    ensures { OnOk result (keys.new.items ≡ keys.old.items ++ map held_key held.now) }
 {
-    match row {
-        None => false,
-        Some(row) => match table.value_with_hash(key) {
-            None => true,
-            Some((value, hash)) => is_wanted(value, hash, row),
-        },
+    for row in held {
+        keys.push(row.key.copied()?)?;
     }
+    Ok(())
 }
 
-/// The keys whose held values a store with these rows should get, in byte order.
-#[tactic(auto, unfolding(crate::specs::Difference::better_keys))]
-fn better_keys(
+/// Appends the keys of the rows.
+fn add_rows(keys: &mut Vec<Key>, rows: &[DigestRow]) -> Result<(), NoMemory>
+    ensures { OnOk result (keys.new.items ≡ keys.old.items ++ map row_key rows.now) }
+{
+    for row in rows {
+        keys.push(row.key.copied()?)?;
+    }
+    Ok(())
+}
+
+/// The items without the first, if that is done with.
+fn left_of<T>(items: &[T], is_done: bool) -> &[T]
+    requires { 0 < length items.now }
+    ensures { result.now ≡ left_of is_done items.now }
+{
+    if is_done { &items[1..] } else { items }
+}
+
+/// How rows differ from held rows, by one walk over both. Both are in byte order of keys.
+#[tactic(auto, using(crate::proofs::Walking::fewer_left))]
+fn difference_of(
     alloc: Global,
     rows: &[DigestRow],
-    places: &BTreeMap<Key, usize>,
-    table: &KvTable,
-) -> Result<Vec<Key>, NoMemory>
-    requires { ArePlacesOf rows.now places.now.entries }
-    ensures { IfOk result (λ keys. keys.items ≡ better_keys rows.now table.now) }
+    held: &[HeldRow<'_>],
+) -> Result<Difference, NoMemory>
+    requires rows_order { AreInKeyOrder rows.now }
+    requires held_order { AreInOrder held_key held.now }
+    requires hashes { HaveTheirHashes held.now }
+    ensures better { IfOk result (λ difference. difference.better.items ≡ better_among held.now rows.now) }
+    ensures wanted { IfOk result (λ difference. difference.wanted.items ≡ wanted_among rows.now held.now) }
 {
-    let mut better = Vec::new(alloc);
-    for key in table.held_keys()? {
-        if is_better_than(table, &key, row_at(rows, places, &key)) {
-            better.push(key)?;
-        }
+    let (mut better, mut wanted) = (Vec::new(alloc), Vec::new(alloc));
+    let (mut held_left, mut rows_left) = (held, rows);
+    while !held_left.is_empty() && !rows_left.is_empty() {
+        let (held_row, row) = (&held_left[0], &rows_left[0]);
+        let order = held_row.key.cmp(&row.key);
+        let (is_better, is_wanted) = compare_firsts(order, held_row, row);
+        add_if(&mut better, is_better, held_row.key)?;
+        add_if(&mut wanted, is_wanted, &row.key)?;
+        held_left = left_of(held_left, order.is_le());
+        rows_left = left_of(rows_left, order.is_ge());
     }
-    Ok(better)
+    add_held(&mut better, held_left)?;
+    add_rows(&mut wanted, rows_left)?;
+    Ok(Difference { better, wanted })
 }
 
-/// The keys whose values the store that holds these should get, in byte order.
-#[tactic(auto, unfolding(crate::specs::Difference::wanted_keys))]
-fn wanted_keys(
-    alloc: Global,
-    rows: &[DigestRow],
-    places: &BTreeMap<Key, usize>,
-    table: &KvTable,
-) -> Result<Vec<Key>, NoMemory>
-    requires { ArePlacesOf rows.now places.now.entries }
-    ensures { IfOk result (λ keys. keys.items ≡ wanted_keys rows.now table.now) }
+/// How rows in byte order of keys differ from what the table holds.
+#[tactic(auto, using(crate::proofs::Compared::a_walk_compares))]
+fn diff_in_order(alloc: Global, rows: &[DigestRow], table: &KvTable) -> Result<Difference, NoMemory>
+    requires { AreInKeyOrder rows.now }
+    ensures better { IfOk result (λ difference. difference.better.items ≡ better_keys rows.now table.now) }
+    ensures wanted { IfOk result (λ difference. difference.wanted.items ≡ wanted_keys rows.now table.now) }
 {
-    let mut wanted = Vec::new(alloc);
-    for key in places.keys() {
-        if is_wanted_over(table, key, row_at(rows, places, key)) {
-            wanted.push(key.copied()?)?;
-        }
-    }
-    Ok(wanted)
+    let held = table.held_rows()?;
+    difference_of(alloc, rows, held.as_slice())
 }
 
 /// How the digest of another store differs from what the table holds.
+#[tactic(auto, using(crate::proofs::Compared::order_is_the_same))]
 pub fn diff(alloc: Global, digest: &[DigestRow], table: &KvTable) -> Result<Difference, NoMemory>
     ensures better { IfOk result (λ difference. difference.better.items ≡ better_keys digest.now table.now) }
     ensures wanted { IfOk result (λ difference. difference.wanted.items ≡ wanted_keys digest.now table.now) }
 {
-    let places = places_of(alloc, digest)?;
-    Ok(Difference {
-        better: better_keys(alloc, digest, &places, table)?,
-        wanted: wanted_keys(alloc, digest, &places, table)?,
-    })
+    if are_in_key_order(digest) {
+        return diff_in_order(alloc, digest, table);
+    }
+    let rows = rows_in_order(alloc, digest)?;
+    diff_in_order(alloc, rows.as_slice(), table)
 }

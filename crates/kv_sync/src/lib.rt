@@ -14,18 +14,19 @@
 //! rise with each start, and no two running sessions share one; and that a running session goes from Dumped to Pushed
 //! and ends as said (`sessions_go_on`).
 //!
-//! `diff` looks up the row of each key by a map of the rows, which may come in any order and name a key more than once,
-//! and takes the hash of a held value from the table. So it costs a few steps in an ordered map for each row and each
-//! held key.
+//! `diff` walks the rows and what is held side by side, once and both in byte order of keys, and takes the hash of a held
+//! value from the table. So each row and each held key takes at most one step, and no look-up. Rows may come in any order
+//! and name a key more than once. Where they do, the first row of each key is put in order before, by an ordered map.
 //!
-//! The files: `difference` (how a digest differs from a table), `messages` (replies and acknowledgements), `session` (plain
-//! data), `sessions` (those that run).
+//! The files: `difference` (how a digest differs from a table), `messages` (replies and acknowledgements), `rows` (the rows
+//! of a digest in byte order of keys), `session` (plain data), `sessions` (those that run).
 #![tactic(auto)]
 
 ghost use Rattle.kv_sync.specs.Law.{NumbersAreNew, SessionsGoOn};
 
 mod difference;
 mod messages;
+mod rows;
 mod session;
 mod sessions;
 

@@ -24,7 +24,7 @@ use Rattle.or_base.proofs.Members.{Contains-first, Contains-later}
 use Rattle.or_base.proofs.Offers.{holds_push}
 use Rattle.or_timer.proofs.Entries.{lookup_with, lookup_without, ordered_with, ordered_without}
 use Rattle.kv_table.specs.Index.{merged_by, merged_at, IsIndexOf, IsKeptOf, Taken, entries_taken, ArePlacesOf, told_at, held_pairs}
-use Rattle.kv_table.proofs.Found.{some_same, keys_held}
+use Rattle.kv_table.proofs.Found.{keys_held}
 
 -- ---- what is kept of a key changes, or goes
 
@@ -33,7 +33,7 @@ told_if : {X Y : Type 0} (reads : X → Y) (tells : KvValue × ℕ → Y) (here 
 told_if reads tells true new old held new_held e f = e
 told_if reads tells false new old held new_held e f = f
 
-abbrev HasAt : {X : Type 0} → List (List ℕ × X) → List (List ℕ × X) → List ℕ → Option X → Type 0
+abbrev pub HasAt : {X : Type 0} → List (List ℕ × X) → List (List ℕ × X) → List ℕ → Option X → Type 0
 HasAt index after key kept = (other : List ℕ) → lookup (is_at (bytes_cmp other)) after ≡ cond (is_at (bytes_cmp key) other) kept (lookup (is_at (bytes_cmp other)) index)
 
 index_changed : {X Y : Type 0} (reads : X → Y) (tells : KvValue × ℕ → Y) (journal : List JournalEntry) (entry : JournalEntry) (index after : List (List ℕ × X)) (key : List ℕ) (kept : Option X) (held : Option (KvValue × ℕ))
@@ -87,13 +87,21 @@ as_held : {Y : Type 0} (told : Option Y) (held : Option Y) → Some told ≡ opt
 as_held told None e = cc
 as_held told (Some h) e = cc
 
+-- a key's entry is what a look-up finds
+pub found_at : {X : Type 0} (index : List (List ℕ × X)) → IsStrictlySortedBy bytes_cmp (keys_of index) → (key : List ℕ) (kept : X) → Contains index (key, kept)
+    → lookup (is_at (bytes_cmp key)) index ≡ Some kept
+found_at index ordered key kept there = lookup-from_Contains (eq_by_cmp_equiv nat_list_cmp_total) key kept index (IsDistinct-from_sorted bytes_cmp (keys_of index) ordered) there
+
+-- what is read at an entry of an index is what is held under its key
+pub read_is_held : {X : Type 0} (reads : X → Option (KvValue × ℕ)) (journal : List JournalEntry) (index : List (List ℕ × X)) → IsIndexOf reads (λ held. Some held) journal index
+    → (key : List ℕ) (kept : X) → Contains index (key, kept) → reads kept ≡ holds journal key
+read_is_held reads journal index told key kept there =
+    as_held (reads kept) (holds journal key) (sym (ap (option_map reads) (found_at index told.ordered key kept there)) ∙ told.tell key)
+
 pub places_told : (taken : Taken) (places : List (List ℕ × ℕ)) → ArePlacesOf taken places → map (told_at taken.journal) places ≡ held_pairs (entries_taken taken)
 places_told taken places kept =
     let journal = entries_taken taken in
-    same_for_each (merged_at taken.journal) (holds journal) places
-    (λ key place there. as_held (merged_at taken.journal place) (holds journal key)
-    (sym (ap (option_map (merged_at taken.journal))
-    (lookup-from_Contains (eq_by_cmp_equiv nat_list_cmp_total) key place places (IsDistinct-from_sorted bytes_cmp (keys_of places) kept.ordered) there)) ∙ kept.tell key))
+    same_for_each (merged_at taken.journal) (holds journal) places (read_is_held (merged_at taken.journal) journal places kept)
     ∙ ap (λ keys. map {B = List ℕ × Option (KvValue × ℕ)} (λ key. (key, holds journal key)) keys) (keys_held (merged_at taken.journal) (λ held. Some held) journal places kept)
 
 -- ---- one entry more is taken

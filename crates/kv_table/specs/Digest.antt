@@ -11,6 +11,10 @@ use Rattle.kv_value.specs.Hashing.{hash_of}
 abbrev pub row_with : List ℕ → KvValue → DigestRow
 row_with key v = record { key = key; version = v.version; originator = v.originator; hash = hash_of v; ttl_version = v.ttl_version }
 
+-- the row of a held key with its value and the hash of that
+abbrev pub digest_row : List ℕ × (KvValue × ℕ) → DigestRow
+digest_row row = record { key = row.0; version = row.1.0.version; originator = row.1.0.originator; hash = row.1.1; ttl_version = row.1.0.ttl_version }
+
 abbrev pub row_of : List JournalEntry → List ℕ → Option DigestRow
 row_of journal key = option_map (λ held. row_with key held.0) (holds journal key)
 

@@ -1,44 +1,34 @@
-ghost use Rattle.std.specs.Prelude.{◌≡◌, ◌++◌, IfOk, OnOk};
-ghost use Rattle.std.specs.Option.{option_to_list};
-ghost use Rattle.kv_value.specs.Hashing.{hash_of};
-ghost use Rattle.kv_table.specs.Digest.{row_with, row_of, digest};
+ghost use Rattle.std.specs.Prelude.{◌≡◌, IfOk};
+ghost use Rattle.kv_table.specs.Held.{row_shown};
+ghost use Rattle.kv_table.specs.Digest.{digest_row, digest};
 
+use crate::held::HeldRow;
 use crate::table::KvTable;
-use or_base::{DigestRow, Key, KvValue, NoMemory};
+use or_base::{DigestRow, NoMemory};
 
-/// The row of a value that is held under the key and has this hash.
-fn row_with(key: Key, value: &KvValue, hash: u64) -> Result<DigestRow, NoMemory>
-    requires { hash ≡ hash_of value.now }
-    ensures { IfOk result (λ row. row ≡ row_with key value.now) }
+/// The row that tells of a held key.
+fn digest_row(held: HeldRow<'_>) -> Result<DigestRow, NoMemory>
+    ensures { IfOk result (λ row. row ≡ digest_row (row_shown held.entry)) }
 {
     Ok(DigestRow {
-        key,
-        version: value.version,
-        originator: value.originator.copied()?,
-        hash,
-        ttl_version: value.ttl_version,
+        key: held.key.copied()?,
+        version: held.value.version,
+        originator: held.value.originator.copied()?,
+        hash: held.hash,
+        ttl_version: held.value.ttl_version,
     })
 }
 
 impl KvTable {
-    /// Appends the row of the key, if it is held.
-    fn add_row(&self, rows: &mut Vec<DigestRow>, key: Key) -> Result<(), NoMemory>
-        ensures { OnOk result (rows.new.items ≡ rows.old.items ++ option_to_list (row_of self.now key)) }
-    {
-        if let Some((value, hash)) = self.value_with_hash(&key) {
-            rows.push(row_with(key, value, hash)?)?;
-        }
-        Ok(())
-    }
-
-    /// One row for each key that is held, in byte order of keys. It hashes nothing: each hash was kept at the merge.
-    #[tactic(auto, unfolding(crate::specs::Digest::digest), using(crate::proofs::Rows::one_row_more))]
+    /// One row for each key that is held, in byte order of keys. A value is hashed where no hash of it is kept yet.
+    #[tactic(auto, using(crate::proofs::Rows::digest_is))]
     pub fn digest(&self) -> Result<Vec<DigestRow>, NoMemory>
         ensures { IfOk result (λ rows. rows.items ≡ digest self.now) }
     {
-        let mut rows = Vec::new(self.alloc());
-        for key in self.held_keys()? {
-            self.add_row(&mut rows, key)?;
+        let held_rows = self.held_rows()?;
+        let mut rows = Vec::with_capacity(self.alloc(), held_rows.len())?;
+        for held in held_rows {
+            rows.push(digest_row(held)?)?;
         }
         Ok(rows)
     }

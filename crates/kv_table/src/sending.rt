@@ -61,7 +61,7 @@ impl KvTable {
     pub fn sent_pairs(&self, now: u64, keys: &[Key]) -> Result<Vec<Pair>, NoMemory>
         ensures { IfOk result (λ pairs. pairs.items ≡ sent_pairs self.now now keys.now) }
     {
-        let mut pairs = Vec::new(self.alloc());
+        let mut pairs = Vec::with_capacity(self.alloc(), keys.len())?;
         for key in keys {
             self.add_pair(&mut pairs, key, now)?;
         }

@@ -1,13 +1,12 @@
-ghost use Rattle.std.specs.Prelude.{◌≡◌, ◌<◌, ◌^◌, ◌++◌, ◌∷◌, [], length, IfOk, OnOk, OnErr};
+ghost use Rattle.std.specs.Prelude.{◌≡◌, ◌<◌, ◌^◌, ◌++◌, ◌∷◌, [], length, map, IfOk, OnOk, OnErr};
 
-use crate::keeping::{deadline_from, keep, merged_at};
-use crate::offered::Offered;
+use crate::held::{HeldRow, held_rows, value_at};
+use crate::keeping::{deadline_from, keep, keep_hash, merge_over, merged_at, newest};
+use crate::offered::{Offered, exceeds};
 use crate::slot::Slot;
-use kv_value::{hash_of, value_cmp};
 use or_base::{Held, JournalEntry, Key, KvValue, NoMemory, Origin, Pair, is_valid_pair};
 use or_timer::Wheel;
 use std::alloc::Global;
-use std::cmp::Ordering;
 use std::collections::BTreeMap;
 use std::marker::Model;
 
@@ -18,6 +17,8 @@ pub struct KvTable {
     entries: Vec<JournalEntry>,
     slots: BTreeMap<Key, Slot>,
     wheel: Wheel,
+    /// Of what is held and was merged before this place the hashes are kept.
+    hashed: usize,
 }
 
 impl Model for KvTable {
@@ -38,7 +39,7 @@ impl KvTable {
     ghost use Rattle.or_base.specs.Journal.{holds, held_keys, offer};
     ghost use Rattle.kv_table.specs.Offered.{offered_of};
     ghost use Rattle.kv_table.specs.Expiry.{keys_lost, expire};
-    ghost use Rattle.kv_table.specs.Slots.{with_hash};
+    ghost use Rattle.kv_table.specs.Held.{with_hash, row_shown, held_rows};
 
     /// A table that holds nothing.
     pub fn new(alloc: Global) -> Result<KvTable, NoMemory>
@@ -48,6 +49,7 @@ impl KvTable {
             entries: Vec::new(alloc),
             slots: BTreeMap::new(alloc),
             wheel: Wheel::new(alloc),
+            hashed: 0,
         })
     }
 
@@ -71,21 +73,59 @@ impl KvTable {
         self.entries
     }
 
-    /// What is held under the key. It takes no memory.
-    pub fn get(&self, key: &Key) -> Option<Held<'_>>
+    /// What is held under the key, by its slot.
+    fn get_by_slot(&self, key: &Key) -> Option<Held<'_>>
         ensures { option_map (λ held. (held.value.now, held.merged_at)) result ≡ holds self.now key.now }
     {
         let slot = self.slots.get(key)?;
         merged_at(self.entries.as_slice(), slot.place)
     }
 
-    /// The value that is held under the key, with its hash. It takes no memory, and hashes nothing.
+    /// What is held under the key. The newest entry is looked at first, since a store sends what it has just merged. It
+    /// takes no memory.
+    pub fn get(&self, key: &Key) -> Option<Held<'_>>
+        ensures { option_map (λ held. (held.value.now, held.merged_at)) result ≡ holds self.now key.now }
+    {
+        match newest(self.entries.as_slice(), key) {
+            Some(held) => Some(held),
+            None => self.get_by_slot(key),
+        }
+    }
+
+    /// The value that is held under the key, with its hash, which is made where none is kept yet. It takes no memory.
     pub fn value_with_hash(&self, key: &Key) -> Option<(&KvValue, u64)>
         ensures { option_map (λ found. (found.0.now, found.1)) result ≡ option_map with_hash (holds self.now key.now) }
     {
         let slot = self.slots.get(key)?;
-        let held = merged_at(self.entries.as_slice(), slot.place)?;
-        Some((held.value, slot.hash))
+        value_at(self.entries.as_slice(), *slot)
+    }
+
+    /// Each held key with its value and the value's hash, in byte order of keys. A value is hashed where no hash of it
+    /// is kept yet.
+    pub fn held_rows(&self) -> Result<Vec<HeldRow<'_>>, NoMemory>
+        ensures { IfOk result (λ rows. map row_shown rows.items ≡ held_rows self.now) }
+    {
+        held_rows(self.alloc(), self.entries.as_slice(), &self.slots)
+    }
+
+    /// Keeps the hash of the value that was merged at the place, if the value is held and has none yet.
+    fn keep_hash(&mut self, place: usize) -> Result<(), NoMemory>
+        ensures { self.new ≡ self.old }
+    {
+        keep_hash(&mut self.slots, self.entries.as_slice(), place)
+    }
+
+    /// Hashes each held value that has no hash yet, and keeps the hash, so that `digest`, `held_rows` and
+    /// `value_with_hash` needn't make it. It looks at what was merged since it was last called. Where memory runs out
+    /// the hashes so far are kept.
+    pub fn keep_hashes(&mut self) -> Result<(), NoMemory>
+        ensures { self.new ≡ self.old }
+    {
+        for place in self.hashed..self.entries.len() {
+            self.keep_hash(place)?;
+        }
+        self.hashed = self.entries.len();
+        Ok(())
     }
 
     /// The keys under which something is held, each once and in byte order.
@@ -99,7 +139,8 @@ impl KvTable {
         Ok(keys)
     }
 
-    /// Merges the pair. Where memory runs out the table stays as it was: all of it is taken before the journal changes.
+    /// Merges a pair whose key has no slot. Where memory runs out the table stays as it was: all of it is taken before the
+    /// journal changes.
     fn merge(&mut self, pair: Pair, now: u64, origin: Origin) -> Result<(), NoMemory>
         ensures ok { OnOk result (self.new ≡ self.old ++ Merged pair now origin ∷ []) }
         ensures err { OnErr result (self.new ≡ self.old) }
@@ -107,7 +148,7 @@ impl KvTable {
         self.entries.reserve(1)?;
         let slot = Slot {
             place: self.entries.len(),
-            hash: hash_of(&pair.value),
+            hash: None,
         };
         let deadline = deadline_from(now, pair.value.ttl);
         keep(&mut self.slots, &mut self.wheel, &pair.key, slot, deadline)?;
@@ -120,21 +161,26 @@ impl KvTable {
     }
 
     /// Merges the pair if it is within the limits and its value exceeds what is held under its key, and tells what
-    /// became of it. `now` is the moment in milliseconds. Where memory runs out the table stays as it was.
-    pub fn offer(&mut self, pair: Pair, now: u64, origin: Origin) -> Result<Offered, NoMemory>
-        ensures answer { IfOk result (λ offered. offered ≡ offered_of self.old pair) }
-        ensures ok { OnOk result (self.new ≡ offer self.old pair now origin) }
+    /// became of it. `now` is the moment in milliseconds. The pair is copied where it is merged. Where memory runs out the
+    /// table stays as it was.
+    #[tactic(auto, using(crate::proofs::Changes::kept_same, crate::proofs::Changes::kept_over))]
+    pub fn offer(&mut self, pair: &Pair, now: u64, origin: Origin) -> Result<Offered, NoMemory>
+        ensures answer { IfOk result (λ offered. offered ≡ offered_of self.old pair.now) }
+        ensures ok { OnOk result (self.new ≡ offer self.old pair.now now origin) }
         ensures err { OnErr result (self.new ≡ self.old) }
     {
-        if !is_valid_pair(&pair) {
+        if !is_valid_pair(pair) {
             return Ok(Offered::Invalid);
         }
-        if let Some(held) = self.get(&pair.key) {
-            if value_cmp(held.value, &pair.value) != Ordering::Less {
-                return Ok(Offered::Kept);
+        match self.slots.get_mut(&pair.key) {
+            None => self.merge(pair.copied()?, now, origin)?,
+            Some(slot) => {
+                if !exceeds(&pair.value, merged_at(self.entries.as_slice(), slot.place)) {
+                    return Ok(Offered::Kept);
+                }
+                merge_over(slot, &mut self.entries, &mut self.wheel, pair, now, origin)?;
             }
         }
-        self.merge(pair, now, origin)?;
         Ok(Offered::Changed)
     }
 

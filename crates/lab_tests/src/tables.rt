@@ -191,7 +191,7 @@ fn change(
             plain.expire(alloc, now)?;
         }
         _ => {
-            table.offer(pair.copied()?, now, Origin::Local)?;
+            table.offer(&pair, now, Origin::Local)?;
             plain.offer(pair, now, Origin::Local)?;
         }
     }

@@ -23,11 +23,14 @@ fn is_key_text(text: &str) -> bool
     1 <= text.len() && has_key_bytes(text.as_bytes())
 }
 
-/// A hexadecimal digit of either case.
+/// A hexadecimal digit of either case. All three ranges are asked, since branches on random digits are predicted badly.
 fn is_hex_byte(byte: u8) -> bool
     ensures { result ≡ is_hex_byte byte }
 {
-    matches!(byte, b'0'..=b'9' | b'a'..=b'f' | b'A'..=b'F')
+    let is_digit = matches!(byte, b'0'..=b'9');
+    let is_lower = matches!(byte, b'a'..=b'f');
+    let is_upper = matches!(byte, b'A'..=b'F');
+    is_digit | is_lower | is_upper
 }
 
 /// Each byte is a hexadecimal digit.

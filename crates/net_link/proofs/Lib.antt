@@ -1,2 +1,5 @@
 pub mod Examples
 pub mod Sending
+pub mod Plain
+pub mod Came
+pub mod Flow

@@ -1,5 +1,5 @@
 -- A link between two nodes: what comes out as a function of what went in.
-use Rattle.std.specs.Prelude.{ℕ, ◌-◌, List, [], ◌∷◌, ◌++◌, Bool, true, false, not, Option, Some, None, ◌==◌, map, if◌then◌else◌}
+use Rattle.std.specs.Prelude.{ℕ, ◌-◌, List, [], ◌∷◌, ◌++◌, Bool, true, false, not, Option, Some, None, ◌==◌, ◌&&◌, length, map, if◌then◌else◌}
 use Rattle.std.specs.Str.{bytes_eq}
 use Rattle.std.specs.List.{filter}
 use Rattle.or_base.specs.declared.act.Act.{Act}
@@ -76,6 +76,10 @@ direction_after d msg = record { script = (next_act d.script).1; held = filter (
 -- what a direction forwards as a message comes: what the act says of it, and then those held back whose counter is 0
 unfoldable pub forwards : Direction → Msg → List Msg
 forwards d msg = forwards_at_once (next_act d.script).0 msg ++ map (λ h. h.msg) (filter is_due (held_after d msg))
+
+-- no act is left, and nothing is held back: such a direction forwards each message as it comes
+abbrev pub is_plain : Direction → Bool
+is_plain d = (length d.script == 0) && (length d.held == 0)
 
 -- all that a direction holds back
 abbrev pub held_messages : Direction → List Msg

@@ -35,7 +35,7 @@ fn append_acts(script: &mut VecDeque<Act>, acts: Vec<Act>) -> Result<(), NoMemor
 }
 
 impl LinkDirection {
-    ghost use Rattle.net_link.specs.Link.{no_script, next_act, held_after, direction_after, forwards, held_messages, without_held, with_acts};
+    ghost use Rattle.net_link.specs.Link.{no_script, next_act, held_after, direction_after, forwards, is_plain, held_messages, without_held, with_acts};
 
     /// No script, and nothing held back. It takes no memory.
     pub fn new(alloc: Global) -> LinkDirection
@@ -45,6 +45,13 @@ impl LinkDirection {
             script: VecDeque::new(alloc),
             held: Vec::new(alloc),
         }
+    }
+
+    /// No act is left, and nothing is held back: each message is forwarded as it comes.
+    pub fn is_plain(&self) -> bool
+        ensures { result ≡ is_plain self.now }
+    {
+        self.script.is_empty() && self.held.is_empty()
     }
 
     /// Takes the act for the next message. It takes no memory.

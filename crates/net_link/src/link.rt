@@ -1,4 +1,4 @@
-ghost use Rattle.std.specs.Prelude.{◌≡◌, ◌++◌, [], ◌∷◌, ◌<◌, IsTrue, IfOk, OnOk, map, false};
+ghost use Rattle.std.specs.Prelude.{◌≡◌, ◌++◌, [], ◌∷◌, ◌<◌, IsTrue, IfOk, OnOk, Some, map, false};
 ghost use Rattle.or_base.specs.declared.item.Item.TheVariants.{Net};
 ghost use Rattle.or_actor.specs.declared.output.Output.TheVariants.{To};
 
@@ -52,7 +52,8 @@ fn send_all(
 impl LinkModule {
     ghost use Rattle.or_actor.specs.Fits.{link_number_end, has_small_link, have_small_links};
     ghost use Rattle.net_link.specs.declared.end.End.TheVariants.{A, B};
-    ghost use Rattle.net_link.specs.Link.{new_link, node_at, direction_from, with_direction, end_of, message_to, peer_up_to, peer_down_to, carry_step, script_step, without_held_messages, held_from, link_step, direction_after, forwards, held_messages, without_held, with_acts};
+    ghost use Rattle.net_link.specs.End.{other_end, store_port_of};
+    ghost use Rattle.net_link.specs.Link.{new_link, node_at, direction_from, with_direction, end_of, message_to, peer_up_to, peer_down_to, carry_step, script_step, without_held_messages, held_from, link_step, direction_after, forwards, is_plain, held_messages, without_held, with_acts};
 
     /// A link that is down, between the nodes a and b. Its number is below `LINK_NUMBER_END`. It takes no memory.
     pub fn new(alloc: Global, link: u32, a: Name, b: Name) -> LinkModule
@@ -142,15 +143,53 @@ impl LinkModule {
         }
     }
 
-    /// Carries a message of an end to the other. That of a node at no end is lost.
-    #[tactic(auto, unfolding(crate::specs::Link::carry_step))]
-    fn carry(&mut self, from: Option<End>, msg: Msg, out: &mut Outbox) -> Result<(), NoMemory>
-        ensures state { OnOk result (self.new ≡ (carry_step self.old from msg).0) }
-        ensures sent { OnOk result (out.new ≡ out.old ++ (carry_step self.old from msg).1) }
+    /// The direction of an end's messages is plain.
+    fn is_plain_from(&self, from: End) -> bool
+        ensures { result ≡ is_plain (direction_from self.now from) }
     {
-        if let Some(from) = from {
-            let msgs = self.take_from(from, msg)?;
-            self.send_to(other_end(from), msgs, out)?;
+        match from {
+            End::A => self.from_a.is_plain(),
+            End::B => self.from_b.is_plain(),
+        }
+    }
+
+    /// Sends a message of the node at an end, as it came, to the store of the other end.
+    fn pass_on(&self, from: End, node: Name, msg: Msg, out: &mut Outbox) -> Result<(), NoMemory>
+        ensures { OnOk result (out.new ≡ out.old ++ To (store_port_of (other_end from)) (Net self.now.link node msg) ∷ []) }
+    {
+        let item = Item::Net {
+            link: self.link,
+            from: node,
+            msg,
+        };
+        out.send(store_port_of(other_end(from)), item)?;
+        Ok(())
+    }
+
+    /// Carries a message of an end to the other, through the direction.
+    #[tactic(auto, unfolding(crate::specs::Link::carry_step))]
+    fn carry_through(&mut self, from: End, msg: Msg, out: &mut Outbox) -> Result<(), NoMemory>
+        ensures state { OnOk result (self.new ≡ (carry_step self.old (Some from) msg).0) }
+        ensures sent { OnOk result (out.new ≡ out.old ++ (carry_step self.old (Some from) msg).1) }
+    {
+        let msgs = self.take_from(from, msg)?;
+        self.send_to(other_end(from), msgs, out)?;
+        Ok(())
+    }
+
+    /// Carries a message of a node to the other end. That of a node at no end is lost. Nearly all directions are plain:
+    /// there it goes straight on, with no list made.
+    #[tactic(auto, unfolding(crate::specs::Link::carry_step), using(crate::proofs::Plain::carry_plain))]
+    fn carry(&mut self, node: Name, msg: Msg, out: &mut Outbox) -> Result<(), NoMemory>
+        ensures state { OnOk result (self.new ≡ (carry_step self.old (end_of self.old node) msg).0) }
+        ensures sent { OnOk result (out.new ≡ out.old ++ (carry_step self.old (end_of self.old node) msg).1) }
+    {
+        if let Some(from) = self.end_of(&node) {
+            if self.is_plain_from(from) {
+                self.pass_on(from, node, msg, out)?;
+            } else {
+                self.carry_through(from, msg, out)?;
+            }
         }
         Ok(())
     }
@@ -225,7 +264,7 @@ impl LinkModule {
             Item::Tick { at: _ } => self.flush(out)?,
             Item::Net { link: _, from, msg } => {
                 if is_up {
-                    self.carry(self.end_of(&from), msg, out)?;
+                    self.carry(from, msg, out)?;
                 }
             }
             _other => {}

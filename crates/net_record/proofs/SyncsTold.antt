@@ -32,7 +32,7 @@ use Rattle.net_record.specs.Kinds.{module_step, store_in}
 use Rattle.net_record.specs.Actors.{new_part, new_actor, store_of, part_step, made_by, actor_after, journal_lengths, actors_after_settle}
 use Rattle.net_record.specs.Answers.{giving_of}
 use Rattle.net_record.specs.Answered.{no_mark}
-use Rattle.net_record.specs.World.{WorldState, start, waiting, turn, turn_of, turn_by, reader_of, is_drained, issue, settle, settle_done, greatest_clock}
+use Rattle.net_record.specs.World.{WorldState, waiting, turn, turn_of, turn_by, reader_of, is_drained, issue, settle, settle_done, greatest_clock}
 use Rattle.net_record.specs.Budget.{is_too_heavy, has_spent_turns, is_over}
 use Rattle.net_record.specs.Rounds.{longest, round_robin}
 use Rattle.net_record.specs.Syncs.{syncs_told, SyncsDiffer}

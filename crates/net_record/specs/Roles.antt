@@ -1,5 +1,5 @@
 -- Which actors a laboratory has: the driver, then the modules of each node, then the links.
-use Rattle.std.specs.Prelude.{ℕ, ◌+◌, ◌*◌, List, [], ◌∷◌, ◌++◌, length, map, Bool, true, false, ◌&&◌, ◌==◌}
+use Rattle.std.specs.Prelude.{ℕ, ◌+◌, ◌*◌, List, [], ◌∷◌, ◌++◌, length, map, Bool, false, ◌&&◌, ◌==◌}
 use Rattle.std.specs.Str.{bytes_eq}
 use Rattle.std.specs.List.{flat_map, enumerate_from, position_or_len}
 use Rattle.or_base.specs.declared.kind.Kind.{Kind}
@@ -18,10 +18,13 @@ abbrev pub modules_of : Kind → List NodeModule
 modules_of Stores = Store ∷ Desk ∷ []
 modules_of Full = Store ∷ Desk ∷ []
 
+-- each kind of module has a number of its own
+abbrev pub kind_number : NodeModule → ℕ
+kind_number Store = 0
+kind_number Desk = 1
+
 abbrev pub is_same_module : NodeModule → NodeModule → Bool
-is_same_module Store Store = true
-is_same_module Desk Desk = true
-is_same_module _ _ = false
+is_same_module m other = kind_number m == kind_number other
 
 -- the number of the first of these that passes a test; where none does, how many there are
 abbrev pub first_place : {A : Type 0} → (A → Bool) → List A → ℕ

@@ -1,5 +1,5 @@
 -- What a record of a run by round robin tells, whether the run settled every phase or not.
-use Rattle.std.specs.Prelude.{◌≡◌, ℕ, List, All, AllPairs, false}
+use Rattle.std.specs.Prelude.{ℕ, AllPairs}
 use Rattle.kv_store.specs.Numbered.{HaveOwnNumbers}
 use Rattle.net_laboratory.specs.Scenario.{Laboratory}
 use Rattle.net_record.specs.declared.record.Record.{Record}

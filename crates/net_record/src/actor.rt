@@ -1,9 +1,9 @@
-ghost use Rattle.std.specs.Prelude.{◌≡◌, ◌+◌, ◌-◌, ◌<◌, ◌^◌, IsTrue, slice_index_or, IfOk, OnOk, OnErr};
+ghost use Rattle.std.specs.Prelude.{◌≡◌, ◌+◌, ◌-◌, ◌<◌, ◌^◌, ◌++◌, IsTrue, slice_index_or, IfOk, OnOk, OnErr};
 
 use crate::part::Part;
 use crate::role::Role;
 use crate::stamps::Stamps;
-use or_actor::{Outbox, Output};
+use or_actor::Outbox;
 use or_base::{NoMemory, Stamped};
 use std::alloc::Global;
 
@@ -15,13 +15,6 @@ pub struct ActorState {
     pub clock: u64,
     pub told: u64,
     pub made: Stamps,
-}
-
-/// The stamp of a turn, and what it sends, in order.
-#[derive(Drop)]
-pub struct TurnOutputs {
-    pub stamp: u64,
-    pub outputs: Vec<Output>,
 }
 
 impl ActorState {
@@ -44,39 +37,35 @@ impl ActorState {
     }
 
     /// One turn with an item of a lane, in which a desk finds a journal of the length `at`, which the turn with the stamp
-    /// `found` made.
+    /// `found` made. What it sends goes into `out`, and the answer is its stamp.
     #[tactic(auto, unfolding(crate::specs::Actors::actor_after, crate::specs::Actors::outputs_of))]
     pub fn turn(
         &mut self,
-        alloc: Global,
         lane: u32,
         taken: Stamped,
         at: u64,
         found: u64,
-    ) -> Result<TurnOutputs, NoMemory>
+        out: &mut Outbox,
+    ) -> Result<u64, NoMemory>
         requires item { IsTrue (has_small_link taken.item) }
         requires at { at < 2 ^ 64 - 1 }
         requires stamp { taken.stamp + 1 < 2 ^ 64 }
         requires clock { self.old.clock + 1 < 2 ^ 64 }
         requires found { found + 1 < 2 ^ 64 }
         ensures state { OnOk result (self.new ≡ actor_after self.old (turn_made self.old.clock lane at taken found)) }
-        ensures stamp { IfOk result (λ sent. sent.stamp ≡ next_stamp taken.stamp self.old.clock found) }
-        ensures sent { IfOk result (λ sent. sent.outputs.items ≡ outputs_of self.old (turn_made self.old.clock lane at taken found)) }
-        ensures small { IfOk result (λ sent. IsTrue (have_small_links sent.outputs.items)) }
+        ensures stamp { IfOk result (λ stamp. stamp ≡ next_stamp taken.stamp self.old.clock found) }
+        ensures sent { OnOk result (out.new ≡ out.old ++ outputs_of self.old (turn_made self.old.clock lane at taken found)) }
+        ensures small { OnOk result (IsTrue (have_small_links (outputs_of self.old (turn_made self.old.clock lane at taken found)))) }
         ensures err_clock { OnErr result (self.new.clock ≡ self.old.clock) }
         ensures err_made { OnErr result (self.new.made ≡ self.old.made) }
     {
         let stamp = taken.stamp.max(self.clock).max(found) + 1;
         let before = self.part.entries().len();
-        let mut out = Outbox::new(alloc)?;
-        self.part.take(lane, taken.item, at, &mut out)?;
+        self.part.take(lane, taken.item, at, out)?;
         let added = self.part.entries().len().saturating_sub(before);
         self.made.add(added, stamp)?;
         self.clock = stamp;
-        Ok(TurnOutputs {
-            stamp,
-            outputs: out.into_outputs(),
-        })
+        Ok(stamp)
     }
 
     /// A settle, at which the journals of the actors have these lengths, sets its clock and tells of all full syncs that it

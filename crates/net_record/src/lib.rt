@@ -40,7 +40,7 @@ mod weight;
 mod wire;
 mod wiring;
 
-pub use actor::{ActorState, TurnOutputs};
+pub use actor::ActorState;
 pub use answers::desks_asked;
 pub use budget::MOST_WEIGHT;
 pub use desk::{Desk, Question};

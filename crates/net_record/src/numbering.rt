@@ -1,7 +1,7 @@
 ghost use Rattle.std.specs.Prelude.{◌≡◌, ◌+◌, ◌*◌, ◌≤◌, ◌<◌, ◌^◌, ◌++◌, All, length, map, vec_len, IfOk, OnOk};
 ghost use Rattle.std.specs.List.{flat_map, enumerate_from};
 ghost use Rattle.net_laboratory.specs.Limits.{most_nodes, most_links};
-ghost use Rattle.net_record.specs.Roles.{modules_of, is_same_module, first_place, store_number, node_roles, link_role, roles, most_modules, most_actors, is_module, is_link_numbered, module_number, link_number};
+ghost use Rattle.net_record.specs.Roles.{modules_of, kind_number, is_same_module, first_place, store_number, node_roles, link_role, roles, most_modules, most_actors, is_module, is_link_numbered, module_number, link_number};
 ghost use Rattle.net_record.specs.declared.role.NodeModule.TheVariants.{Store};
 ghost use Rattle.net_record.specs.Small.{HasSmallNumber};
 
@@ -25,14 +25,21 @@ fn modules_of(alloc: Global, kind: Kind) -> Result<Vec<NodeModule>, NoMemory>
     Ok(modules)
 }
 
+/// The number of a kind of module.
+fn kind_number(module_: NodeModule) -> u32
+    ensures { result ≡ kind_number module_ }
+{
+    match module_ {
+        NodeModule::Store => 0,
+        NodeModule::Desk => 1,
+    }
+}
+
 /// Both are the same module of a node.
 fn is_same_module(module_: NodeModule, other: NodeModule) -> bool
     ensures { result ≡ is_same_module module_ other }
 {
-    match (module_, other) {
-        (NodeModule::Store, NodeModule::Store) | (NodeModule::Desk, NodeModule::Desk) => true,
-        _ => false,
-    }
+    kind_number(module_) == kind_number(other)
 }
 
 /// The place of the store among the modules of a node.

@@ -5,7 +5,7 @@ ghost use Rattle.net_world.specs.Sound.{StaySound};
 
 use crate::lanes::Lanes;
 use net_record::Wiring;
-use or_actor::Output;
+use or_actor::{Outbox, Output};
 use or_base::{NoMemory, Stamped};
 
 /// Puts an item that keeps lanes sound on a lane, or on none.
@@ -20,21 +20,21 @@ fn put(lanes: &mut Lanes, number: Option<u32>, item: Stamped) -> Result<(), NoMe
     Ok(())
 }
 
-/// Puts a writer's outputs on the lanes of their ports, in order, each with the stamp.
+/// Puts a writer's outputs on the lanes of their ports, in order, each with the stamp. The outbox is empty then.
 #[tactic(auto, using(crate::proofs::Staying::staying))]
 pub fn deliver(
     wiring: &Wiring,
     lanes: &mut Lanes,
     writer: u32,
     stamp: u64,
-    outputs: Vec<Output>,
+    out: &mut Outbox,
 ) -> Result<(), NoMemory>
-    requires { IsTrue (have_small_links outputs.items) }
-    ensures ok { OnOk result (lanes.new ≡ deliver wiring.now writer stamp lanes.old outputs.items) }
+    requires { IsTrue (have_small_links out.old) }
+    ensures ok { OnOk result (lanes.new ≡ deliver wiring.now writer stamp lanes.old out.old) }
     ensures len { length lanes.new ≡ length lanes.old }
     ensures sound { StaySound stamp lanes.old lanes.new }
 {
-    for output in outputs {
+    while let Some(output) = out.take_first() {
         match output {
             Output::To { lane, item } => {
                 let number = wiring.lane(writer, lane);

@@ -10,10 +10,10 @@ use crate::lanes::{Busy, Lanes};
 use crate::start::new_actors;
 use net_laboratory::{MOST_TURNS, Scenario};
 use net_record::{
-    ActorState, MOST_WEIGHT, Record, SettleDone, TurnOutputs, Wiring, add_item, add_settle,
-    journals_of, longest, marks_of, roles, wires,
+    ActorState, MOST_WEIGHT, Record, SettleDone, Wiring, add_item, add_settle, journals_of,
+    longest, marks_of, roles, wires,
 };
-use or_actor::Output;
+use or_actor::{Outbox, Output};
 use or_base::{NoMemory, Seq, TurnDone};
 use std::alloc::Global;
 use std::marker::Model;
@@ -29,6 +29,8 @@ pub struct World {
     turns: Vec<TurnDone>,
     settles: Vec<SettleDone>,
     weight: u64,
+    /// Empty, but during a turn.
+    outbox: Outbox,
     alloc: Global,
 }
 
@@ -66,6 +68,7 @@ impl World {
             turns,
             settles,
             weight: 0,
+            outbox: Outbox::new(alloc),
             alloc,
         })
     }
@@ -112,18 +115,25 @@ impl World {
         let taken = self.lanes.take(lane as u32);
         let item = Snapshot::of(&taken.item);
         let weight = add_item(self.weight, &taken.item);
-        let TurnOutputs { stamp, outputs } = act(
-            self.alloc,
+        self.outbox.clear();
+        let stamp = act(
             &mut self.actors,
             reader,
             lane as u32,
             taken,
             at,
+            &mut self.outbox,
         )?;
         self.weight = weight;
         self.turns
             .push_reserved(TurnDone::new(lane as u32, at, stamp, item));
-        deliver(&self.wiring, &mut self.lanes, reader, stamp, outputs)?;
+        deliver(
+            &self.wiring,
+            &mut self.lanes,
+            reader,
+            stamp,
+            &mut self.outbox,
+        )?;
         Ok(())
     }
 
@@ -133,7 +143,8 @@ impl World {
         ensures { OnOk result (self.new ≡ issue self.old issues.items) }
     {
         let stamp = driver_clock(self.actors.as_slice());
-        deliver(&self.wiring, &mut self.lanes, 0, stamp, issues)?;
+        let mut out = Outbox::from_outputs(issues);
+        deliver(&self.wiring, &mut self.lanes, 0, stamp, &mut out)?;
         Ok(())
     }
 
@@ -184,6 +195,7 @@ impl World {
             turns,
             settles,
             weight: _weight,
+            outbox: _outbox,
             alloc,
         } = self;
         let journals = journals_of(alloc, actors)?;

@@ -1,5 +1,5 @@
 -- The ports by which actors name their outgoing lanes. The driver's port for an actor is the actor's number.
-use Rattle.std.specs.Prelude.{ℕ, ◌+◌}
+use Rattle.std.specs.Prelude.{ℕ}
 
 -- the store of a module's own node; for a link, that of its end a
 abbrev pub store_port : ℕ

@@ -1,14 +1,15 @@
-ghost use Rattle.std.specs.Prelude.{◌≡◌, [], ◌∷◌, ◌++◌, IfOk, OnOk, OnErr};
+ghost use Rattle.std.specs.Prelude.{◌≡◌, [], ◌∷◌, ◌++◌, MatchOption, OnOk, OnErr};
 
 use crate::output::Output;
 use or_base::{Item, NoMemory};
 use std::alloc::Global;
+use std::collections::VecDeque;
 use std::marker::Model;
 
-/// What a turn sends, in order. Contracts see it as the list of its outputs.
+/// What a turn sends, in order. Contracts see it as the list of its outputs. It keeps its memory from turn to turn.
 #[derive(Drop)]
 pub struct Outbox {
-    outputs: Vec<Output>,
+    outputs: VecDeque<Output>,
 }
 
 impl Model for Outbox {
@@ -23,13 +24,22 @@ impl Model for Outbox {
 impl Outbox {
     ghost use Rattle.or_actor.specs.declared.output.Output.TheVariants.{To};
 
-    /// Nothing is sent yet.
-    pub fn new(alloc: Global) -> Result<Outbox, NoMemory>
-        ensures { IfOk result (λ outbox. outbox ≡ []) }
+    /// Nothing is sent yet. It takes no memory.
+    pub fn new(alloc: Global) -> Outbox
+        ensures { result ≡ [] }
     {
-        Ok(Outbox {
-            outputs: Vec::new(alloc),
-        })
+        Outbox {
+            outputs: VecDeque::new(alloc),
+        }
+    }
+
+    /// These outputs are sent, in order. It takes no memory.
+    pub fn from_outputs(outputs: Vec<Output>) -> Outbox
+        ensures { result ≡ outputs.items }
+    {
+        Outbox {
+            outputs: VecDeque::from_vec(outputs),
+        }
     }
 
     /// Sends the item to the lane of a port.
@@ -37,14 +47,21 @@ impl Outbox {
         ensures ok { OnOk result (self.new ≡ self.old ++ To lane item ∷ []) }
         ensures err { OnErr result (self.new ≡ self.old) }
     {
-        self.outputs.push(Output::To { lane, item })?;
+        self.outputs.push_back(Output::To { lane, item })?;
         Ok(())
     }
 
-    /// What was sent. It takes no memory.
-    pub fn into_outputs(self) -> Vec<Output>
-        ensures { result.items ≡ self }
+    /// Takes out what was sent first, if there is something. It takes no memory.
+    pub fn take_first(&mut self) -> Option<Output>
+        ensures { MatchOption result ((self.old ≡ []) × (self.new ≡ [])) (λ first. self.old ≡ first ∷ self.new) }
     {
-        self.outputs
+        self.outputs.pop_front()
+    }
+
+    /// Forgets what was sent. It takes no memory.
+    pub fn clear(&mut self)
+        ensures { self.new ≡ [] }
+    {
+        self.outputs.clear();
     }
 }

@@ -1,9 +1,7 @@
-use Rattle.std.proofs.Common.{◌≡◌}
-use Rattle.std.specs.Vec.Iter.{into_iter_items}
+use Rattle.std.proofs.Common.{◌≡◌, drop}
 use Rattle.kv_store.specs.Store.{offer_all}
 use Rattle.kv_store.proofs.offers.offer_all.Given as goal
 
 -- offering what is left gives what offering all of it gives
 abbrev pub invariant-loop-pair : goal.invariant-loop-pair
-invariant-loop-pair l =
-    offer_all l.table (into_iter_items l.pair-iterator) l.now l.origin ≡ offer_all l.initial.table (into_iter_items l.initial.pair-iterator) l.now l.origin
+invariant-loop-pair l = offer_all l.table (drop l.pair-index l.pairs) l.now l.origin ≡ offer_all l.initial.table l.pairs l.now l.origin

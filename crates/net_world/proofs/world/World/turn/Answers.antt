@@ -91,7 +91,7 @@ returns c =
     let within = within_waiting i.lanes c.args.lane (search rules) in
     let there = reader_there w c.args.lane c.reader-reader.result (record { writer = 0; port = 0; reader = 0 }) c.self.invariant.sound within (c.reader-reader.ensures (record { writer = 0; port = 0; reader = 0 })) in
     turn_is_made w c.args.lane c.args.at c.reader-reader.result (record { writer = 0; port = 0; reader = 0 }) c.take-taken.result (drop 1 (get_or i.lanes c.args.lane []))
-    c.in_ok-stamp.stamp c.in_ok-stamp.outputs.items c.of-item.result.value c.act.new.actors.items c.take-taken.new.self c.deliver.new.lanes c.push_reserved.new.self.items
+    c.in_ok-stamp.stamp c.act.new.out c.of-item.result.value c.act.new.actors.items c.take-taken.new.self c.deliver.new.lanes c.push_reserved.new.self.items
     (omega (arith, within, c.self.invariant.sound.wired.as_many)) (c.reader-reader.ensures (record { writer = 0; port = 0; reader = 0 })) c.take-taken.ensures.front there (search rules) (search rules) (search rules)
     (search rules) c.take-taken.ensures.left (search rules) (search rules)
     ∙ ap (λ v. turn v c.args.lane c.args.at) c.self.view_is
