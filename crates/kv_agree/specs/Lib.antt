@@ -1,0 +1,6 @@
+pub mod Agreement
+pub mod Exchange
+pub mod Traced
+pub mod Orderly
+pub mod Paired
+pub mod Joined
