@@ -7,6 +7,8 @@
 //! for its tests. What runs of the program show, the folder `cases` at the top states.
 #![tactic(auto)]
 
+#[cfg(test)]
+mod agreement;
 pub mod fixtures;
 #[cfg(test)]
 mod owned;

@@ -1,5 +1,6 @@
-ghost use Rattle.std.specs.Prelude.{◌≡◌, ◌+◌, ◌<◌, ◌^◌, [], All, length, IfOk, IfErr, OnOk};
+ghost use Rattle.std.specs.Prelude.{◌≡◌, ◌+◌, ◌<◌, ◌^◌, [], All, IsTrue, length, IfOk, IfErr, OnOk};
 ghost use Rattle.std.specs.List.{enumerate_from};
+ghost use Rattle.net_laboratory.specs.Sound.{is_sound};
 ghost use Rattle.net_record.specs.World.{start, is_drained};
 ghost use Rattle.net_record.specs.Budget.{is_over};
 ghost use Rattle.net_record.specs.Rounds.{turns_on, round, after_round, rounds_of, phase_of, rounds_of_phases, round_robin};
@@ -10,11 +11,13 @@ ghost use Rattle.net_record.specs.Tells.{RecordTells};
 ghost use Rattle.net_record.specs.Small.{IssuesSmallLinks};
 ghost use Rattle.net_world.specs.Busy.{turns_on_each};
 ghost use Rattle.net_world.specs.Settling.{after_phase, settles_phase};
-ghost use Rattle.net_world.specs.Fault.{IsFaultOf, FaultTells};
+ghost use Rattle.net_agree.specs.Recorded.{RecordAgrees};
+ghost use Rattle.net_world.specs.Fault.{IsFaultOf, FaultTells, FaultAgrees};
 
 use crate::fault::RunFault;
 use crate::lanes::Busy;
 use crate::world::World;
+use net_agree::rounds_agree;
 use net_laboratory::Scenario;
 use net_record::{
     Phase, Record, answers_are_held, desks_asked, none_is_behind, phases, rounds_are_a_run,
@@ -168,6 +171,13 @@ impl MarkedWorld {
     }
 }
 
+/// What the type of a scenario keeps.
+fn scenario_is_sound(scenario: &Scenario)
+    ensures { IsTrue (is_sound scenario.now) }
+{
+    let _kind = scenario.kind;
+}
+
 /// The rounds of every phase of a scenario.
 #[tactic(auto, unfolding(net_record::specs::Rounds::round_robin))]
 fn run_scenario(alloc: Global, scenario: &Scenario) -> Result<Record, RunFault>
@@ -186,19 +196,21 @@ fn run_scenario(alloc: Global, scenario: &Scenario) -> Result<Record, RunFault>
 
 /// Runs a scenario by round robin: in each phase rounds until no item waits, at most as many as the settle that ends
 /// it allows. The record is that of these rounds. Each phase has its settle, and no item waits at the end. But for its
-/// marks the record is that of the run under the schedule of its own turns. Whether the run settled or not, every store is
-/// its journal: what a settle tells of one are as many entries as it had then, the first of the journal in the record, and
-/// each answer is what some first entries of its node's journal tell, no desk is behind, and no two finished full syncs that
-/// settles tell of one node have the same number. It fails where a phase is unsettled, with the phase and the record up to
-/// there, and where memory runs out.
+/// marks the record is that of the run under the schedule of its own turns. Whether the run settled or not, every store
+/// is its journal: what a settle tells of one are as many entries as it had then, the first of the journal in the
+/// record, and each answer is what some first entries of its node's journal tell, no desk is behind, no two finished
+/// full syncs that settles tell of one node have the same number, and at a settle stores that full syncs join agree. It
+/// fails where a phase is unsettled, with the phase and the record up to there, and where memory runs out.
 #[tactic(auto, using(crate::proofs::Recorded::recorded))]
 pub fn round_robin(alloc: Global, scenario: &Scenario) -> Result<Record, RunFault>
     ensures rounds { IfOk result (λ done. IsSettled (round_robin scenario.now) done) }
     ensures drained { IfOk result (λ done. EndsDrained scenario.now) }
     ensures is_run { IfOk result (λ done. IsRecordOf (run scenario.now (schedule_of done.turns)) done) }
     ensures tells { IfOk result (λ done. RecordTells scenario.now done) }
+    ensures agrees { IfOk result (λ done. RecordAgrees scenario.now done) }
     ensures fault { IfErr result (λ fault. IsFaultOf (round_robin scenario.now) fault) }
     ensures fault_tells { IfErr result (λ fault. FaultTells scenario.now fault) }
+    ensures fault_agrees { IfErr result (λ fault. FaultAgrees scenario.now fault) }
 {
     rounds_are_a_run();
     settled_rounds_end_drained();
@@ -206,6 +218,10 @@ pub fn round_robin(alloc: Global, scenario: &Scenario) -> Result<Record, RunFaul
     answers_are_held();
     none_is_behind();
     syncs_differ();
-    let done = run_scenario(alloc, scenario)?;
-    Ok(done)
+    rounds_agree();
+    scenario_is_sound(scenario);
+    match run_scenario(alloc, scenario) {
+        Ok(done) => Ok(done),
+        Err(fault) => Err(fault),
+    }
 }

@@ -11,6 +11,7 @@ use Rattle.net_record.specs.Run.{run as run_of, schedule_of}
 use Rattle.net_record.specs.Records.{IsSettled, IsUnsettled, IsRecordOf}
 use Rattle.net_record.specs.Ends.{EndsDrained}
 use Rattle.net_record.specs.Tells.{RecordTells}
+use Rattle.net_agree.specs.Recorded.{RecordAgrees}
 use Rattle.net_report.specs.Report.{line, report as report_of}
 use Rattle.openr_lab.specs.declared.answer.Answer.{Answer}
 use Rattle.openr_lab.specs.Streams.{read_limit, ReadWhole, WroteWhole, WroteFront}
@@ -94,8 +95,9 @@ AnswerFailed words left left' taken taken' run =
     ReadFailed words left left' taken taken' run ⊎ NotBuiltFailed words left left' taken taken' run
 
 -- What status 0 says of the run of a laboratory: the record is that of its run by round robin, which settled every
--- phase and left no item. But for its marks it is the record of the run under the schedule of its own turns. What it tells of
--- stores, answers and full syncs holds (`RecordTells`). The text is its report.
+-- phase and left no item. But for its marks it is the record of the run under the schedule of its own turns. What it
+-- tells of stores, answers and full syncs holds (`RecordTells`), and stores that full syncs join agree at its settles
+-- (`RecordAgrees`). The text is its report.
 pub record IsReplay (lab : Laboratory) (trace : Bool) (text : List ℕ) (run : Option Record) : Type 0 where
   pub done : Record
   pub recorded : run ≡ Some done
@@ -103,16 +105,18 @@ pub record IsReplay (lab : Laboratory) (trace : Bool) (text : List ℕ) (run : O
   pub drained : EndsDrained lab
   pub is_run : IsRecordOf (run_of lab (schedule_of done.turns)) done
   pub tells : RecordTells lab done
+  pub agrees : RecordAgrees lab done
   pub report : text ≡ report_of done lab trace
 
--- What status 4 says of the run of a laboratory: the record is that of its run by round robin up to a phase that is unsettled, and what
--- it tells holds all the same. The text names the phase.
+-- What status 4 says of the run of a laboratory: the record is that of its run by round robin up to a phase that is
+-- unsettled, and what it tells holds all the same. The text names the phase.
 pub record IsUnsettledRun (lab : Laboratory) (text : List ℕ) (run : Option Record) : Type 0 where
   pub phase : ℕ
   pub done : Record
   pub recorded : run ≡ Some done
   pub rounds : IsUnsettled (round_robin lab) phase done
   pub tells : RecordTells lab done
+  pub agrees : RecordAgrees lab done
   pub named : text ≡ unsettled_line phase
 
 -- these bytes are a scenario that the program runs under these words, and this holds of its laboratory

@@ -1,0 +1,148 @@
+-- An actor stays of its role, and a store's peers stay at the other ends of its links, over turns and settles.
+use Rattle.std.proofs.Common.{◌≡◌, ℕ, zero, suc, ◌<◌, inl, inr, ◌⊎◌, List, [], ◌∷◌, Option, Some, None, length, map, set, refl, sym, ap, ◌∙◌, subst, arith, length-set}
+use Rattle.std.specs.Prelude.{slice_get, option_map}
+use Rattle.std.specs.List.{Contains}
+use Rattle.std.proofs.lemmas.List.{length-map}
+use Rattle.std.proofs.lemmas.Option.{none-some, same_Some, slice_get-map, slice_get-get_or, slice_get_within}
+use Rattle.or_base.specs.declared.item.Item.{Item}
+use Rattle.or_base.specs.declared.kind.Kind.TheVariants.{Stores}
+use Rattle.or_base.proofs.Members.{Contains-first, Contains-later}
+use Rattle.kv_store.specs.Store.{StoreState, store_step, new_store}
+use Rattle.net_link.specs.Link.{link_step}
+use Rattle.net_link.proofs.Flow.{links_make_nothing_up}
+use Rattle.net_record.specs.declared.role.NodeModule.TheVariants.{Store as StoreRole, Desk as DeskRole}
+use Rattle.net_record.specs.declared.role.Role.{Role}
+use Rattle.net_record.specs.declared.role.Role.TheVariants.{Driver as DriverRole, Node, Link as LinkRole}
+use Rattle.net_record.specs.declared.kinds.AnyModule.TheVariants.{Store, Link}
+use Rattle.net_record.specs.declared.part.Part.{Part}
+use Rattle.net_record.specs.declared.part.Part.TheVariants.{Driver, Desk, Module}
+use Rattle.net_record.specs.declared.actor.ActorState.{ActorState}
+use Rattle.net_record.specs.Kinds.{module_step}
+use Rattle.net_record.specs.Desk.{DeskState, key_asked, with_question, desk_after}
+use Rattle.net_record.specs.Actors.{new_part, new_actor, no_actor, actor_at, store_of, part_step, part_after_settle, actor_after_settle, part_without_question, actor_without_question}
+use Rattle.net_record.specs.Answers.{Giving, give, give_all}
+use Rattle.net_record.proofs.Standing.{node_and_store, node_and_store-question}
+use Rattle.net_agree.specs.Routed.{IsOf, AreEnds, MayWaitFor, KnowsPeers}
+use Rattle.net_agree.proofs.RoutedStores.{Knows, turn_knows, turn_me}
+
+-- ---- lists
+
+-- what stands somewhere is among them
+pub contained : {X : Type 0} (xs : List X) (number : ℕ) (x : X) → slice_get xs number ≡ Some x → Contains xs x
+contained [] number x there = absurd (none-some _ there)
+contained (first ∷ xs) zero x there = subst (Contains (first ∷ xs)) (same_Some _ _ there) (Contains-first first xs)
+contained (first ∷ xs) (suc number) x there = Contains-later first xs x (contained xs number x there)
+
+-- ---- one actor
+
+-- the actor is of its role, and knows its peers where it is a store
+pub record IsFit (all : List Role) (part : Part) (role : Role) : Type 0 where
+  pub is : IsOf part role
+  pub knows : (s : StoreState) → store_of part ≡ Some s → KnowsPeers all s
+
+-- as many actors as roles, each fit for its own
+pub record AreFit (all : List Role) (actors : List ActorState) : Type 0 where
+  pub as_many : length actors ≡ length all
+  pub fit : (number : ℕ) (actor : ActorState) (role : Role) → slice_get actors number ≡ Some actor → slice_get all number ≡ Some role → IsFit all actor.part role
+
+fit_no_store : (all : List Role) (part : Part) (role : Role) → IsOf part role → store_of part ≡ None → IsFit all part role
+fit_no_store all part role is none = record { is = is; knows = λ s found. absurd (none-some _ (sym none ∙ found)) }
+
+fit_store : (all : List Role) (s : StoreState) (role : Role) → IsOf (Module (Store s)) role → KnowsPeers all s → IsFit all (Module (Store s)) role
+fit_store all s role is knows = record { is = is; knows = λ t found. subst (KnowsPeers all) (same_Some _ _ found) knows }
+
+knows_from : (all : List Role) (s : StoreState) → KnowsPeers all s → Knows (λ link peer. AreEnds all link peer s.me) s
+knows_from all s k = record { peers = k.peers; running = k.running; done = k.done }
+
+knows_to : (all : List Role) (me : List ℕ) (s : StoreState) → s.me ≡ me → Knows (λ link peer. AreEnds all link peer me) s → KnowsPeers all s
+knows_to all me s same k =
+    let own = subst (λ name. Knows (λ link peer. AreEnds all link peer name) s) (sym same) k in
+    record { peers = own.peers; running = own.running; done = own.done }
+
+fit_desk : (d e : DeskState) (role : Role) → node_and_store e ≡ node_and_store d → IsOf (Desk d) role → IsOf (Desk e) role
+fit_desk d e role same is = is ∙ ap (λ (p : List ℕ × ℕ). Node DeskRole p.0 p.1) (sym same)
+
+-- an actor stays fit in its turn
+pub turn_fit : (all : List Role) (part : Part) (role : Role) (lane : ℕ) (item : Item) (at : ℕ) → IsFit all part role → MayWaitFor all role item → IsFit all (part_step part lane item at).0 role
+unfolding part_step module_step desk_after
+turn_fit all Driver role lane item at f may = f
+turn_fit all (Desk d) role lane item at f may =
+    fit_no_store all (Desk (with_question d (key_asked item) at)) role (fit_desk d (with_question d (key_asked item) at) role (node_and_store-question d (key_asked item) at) f.is) refl
+turn_fit all (Module (Store s)) role lane item at f may =
+    let after = (store_step s item).0 in
+    let own : Knows (λ link peer. AreEnds all link peer s.me) after =
+    turn_knows (λ link peer. AreEnds all link peer s.me) s item (λ link peer brings. may.of_peer s.me f.is.0 f.is.1 link peer brings) (knows_from all s (f.knows s refl)) in
+    fit_store all after role (f.is.0, f.is.1 ∙ ap (λ name. Node StoreRole name f.is.0) (sym (turn_me s item))) (knows_to all s.me after (turn_me s item) own)
+turn_fit all (Module (Link s)) role lane item at f may =
+    let passed = links_make_nothing_up s item in
+    let after = (link_step s item).0 in
+    let same : LinkRole s.link s.a s.b ≡ LinkRole after.link after.a after.b = cc (passed.link, passed.a, passed.b) in
+    fit_no_store all (Module (Link after)) role (f.is ∙ same) refl
+
+new_fit : (all : List Role) (role : Role) → IsFit all (new_part role) role
+new_fit all DriverRole = fit_no_store all Driver DriverRole refl refl
+new_fit all (Node StoreRole node store) =
+    fit_store all (new_store Stores node) (Node StoreRole node store) (store, refl) (record { peers = tt; running = tt; done = tt })
+new_fit all (Node DeskRole node store) = fit_no_store all (new_part (Node DeskRole node store)) (Node DeskRole node store) refl refl
+new_fit all (LinkRole link a b) = fit_no_store all (new_part (LinkRole link a b)) (LinkRole link a b) refl refl
+
+settled_fit : (all : List Role) (part : Part) (role : Role) (lengths : List ℕ) → IsFit all part role → IsFit all (part_after_settle lengths part) role
+settled_fit all Driver role lengths f = f
+settled_fit all (Desk d) role lengths f = fit_no_store all (part_after_settle lengths (Desk d)) role f.is refl
+settled_fit all (Module m) role lengths f = f
+
+without_fit : (all : List Role) (part : Part) (role : Role) → IsFit all part role → IsFit all (part_without_question part) role
+without_fit all Driver role f = f
+without_fit all (Desk d) role f = fit_no_store all (part_without_question (Desk d)) role f.is refl
+without_fit all (Module m) role f = f
+
+-- ---- lists of actors
+
+set_cases : {X : Type 0} (xs : List X) (at : ℕ) (new : X) (number : ℕ) (x : X) → slice_get (set xs at new) number ≡ Some x → ((number ≡ at) × (new ≡ x)) ⊎ (slice_get xs number ≡ Some x)
+set_cases [] at new number x there = absurd (none-some _ there)
+set_cases (first ∷ xs) zero new zero x there = inl (refl, same_Some _ _ there)
+set_cases (first ∷ xs) zero new (suc number) x there = inr there
+set_cases (first ∷ xs) (suc at) new zero x there = inr there
+set_cases (first ∷ xs) (suc at) new (suc number) x there =
+    elim (set_cases xs at new number x there) [ inl is ↦ inl (ap suc is.0, is.1) | inr other ↦ inr other ]
+
+pub set_fit : (all : List Role) (actors : List ActorState) (at : ℕ) (new : ActorState) → AreFit all actors → ((role : Role) → slice_get all at ≡ Some role → IsFit all new.part role)
+    → AreFit all (set actors at new)
+set_fit all actors at new h fit = record {
+  as_many = length-set actors at new ∙ h.as_many;
+  fit = λ number actor role there of. elim (set_cases actors at new number actor there) [
+    | inl is ↦ subst (λ (a : ActorState). IsFit all a.part role) is.1 (fit role (ap (slice_get all) (sym is.0) ∙ of))
+    | inr other ↦ h.fit number actor role other of
+  ];
+}
+
+pub start_fit : (all : List Role) → AreFit all (map new_actor all)
+start_fit all = record {
+  as_many = length-map all new_actor;
+  fit = λ number actor role there of.
+      (let same : new_actor role ≡ actor = same_Some _ _ (sym (ap (option_map new_actor) of) ∙ sym (slice_get-map new_actor all number) ∙ there) in
+      subst (λ (a : ActorState). IsFit all a.part role) same (new_fit all role));
+}
+
+pub mapped_fit : (all : List Role) (actors : List ActorState) (clock : ℕ) (lengths : List ℕ) → AreFit all actors → AreFit all (map (actor_after_settle clock lengths) actors)
+mapped_fit all actors clock lengths h = record {
+  as_many = length-map actors (actor_after_settle clock lengths) ∙ h.as_many;
+  fit = λ number actor role there of. by_actor number actor role (slice_get actors number) refl (sym (slice_get-map (actor_after_settle clock lengths) actors number) ∙ there) of;
+} where
+  by_actor : (number : ℕ) (after : ActorState) (role : Role) (found : Option ActorState) → slice_get actors number ≡ found
+      → option_map (actor_after_settle clock lengths) found ≡ Some after → slice_get all number ≡ Some role → IsFit all after.part role
+  by_actor number after role None there is of = absurd (none-some _ is)
+  by_actor number after role (Some actor) there is of =
+      subst (λ (a : ActorState). IsFit all a.part role) (same_Some _ _ is) (settled_fit all actor.part role lengths (h.fit number actor role there of))
+
+given_fit : (all : List Role) (g : Giving) (number : ℕ) → AreFit all g.actors → AreFit all (give g number).actors
+unfolding give
+given_fit all g number h =
+    set_fit all g.actors number (actor_without_question (actor_at g.actors number)) h
+    (λ role of.
+    (let within : number < length g.actors = omega (arith, slice_get_within all number role of, h.as_many) in
+    without_fit all (actor_at g.actors number).part role (h.fit number (actor_at g.actors number) role (slice_get-get_or g.actors number no_actor within) of)))
+
+pub all_given_fit : (all : List Role) (g : Giving) (numbers : List ℕ) → AreFit all g.actors → AreFit all (give_all g numbers).actors
+all_given_fit all g [] h = h
+all_given_fit all g (number ∷ numbers) h = all_given_fit all (give g number) numbers (given_fit all g number h)

@@ -1,0 +1,7 @@
+pub mod Reached
+pub mod Routed
+pub mod Timed
+pub mod Counted
+pub mod Lifted
+pub mod Settled
+pub mod Recorded
