@@ -19,7 +19,7 @@ use Rattle.net_record.specs.Actors.{made_by}
 use Rattle.net_record.specs.Answers.{desks_asked}
 use Rattle.net_record.specs.World.{WorldState, start, waiting, turn, turn_of, turn_by, reader_of, issue, settle}
 use Rattle.net_record.specs.Run.{begin}
-use Rattle.net_agree.specs.Reached.{IsReached, starts, turns, settles}
+use Rattle.net_record.specs.Reached.{IsReached, starts, turns, settles}
 use Rattle.net_agree.specs.Counted.{RunsAreCounted}
 use Rattle.net_agree.proofs.CountedStores.{store_at, store_there, IsAfter, starts_new, actor_stepped, stores_settled}
 

@@ -38,7 +38,7 @@ use Rattle.net_record.specs.Answers.{Giving, desks_asked, give, give_all, giving
 use Rattle.net_record.specs.Actors.{new_part, new_actor, no_actor, actor_at, store_of, made_by, part_after_settle, actor_after_settle, journal_lengths, part_without_question, actor_without_question}
 use Rattle.net_record.specs.World.{WorldState, start, waiting, turn, turn_of, turn_by, reader_of, issue, settle, driver_clock, greatest_clock}
 use Rattle.net_record.specs.Run.{begin}
-use Rattle.net_agree.specs.Reached.{IsReached, starts, turns, settles}
+use Rattle.net_record.specs.Reached.{IsReached, starts, turns, settles}
 use Rattle.net_agree.specs.Routed.{IsStoreAt, MayWaitFor, IsRouted, RunsAreRouted}
 use Rattle.net_agree.specs.Timed.{IsFrom, IsTimed, RunsAreTimed}
 use Rattle.net_agree.specs.Counted.{IsFewAfter, RunsAreCounted}

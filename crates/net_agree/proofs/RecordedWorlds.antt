@@ -28,8 +28,8 @@ use Rattle.net_record.proofs.Grown.{Grow, fronts_same, fronts_then, grow_turn, g
 use Rattle.net_record.proofs.Kept.{TurnsKeep, keep_rounds_of}
 use Rattle.net_record.proofs.RoundRuns.{goes_on, drained-or}
 use Rattle.net_record.proofs.RoundTurns.{not_drained}
-use Rattle.net_agree.specs.Reached.{IsReached}
-use Rattle.net_agree.specs.Reached.IsReached.{starts, turns, settles}
+use Rattle.net_record.specs.Reached.{IsReached}
+use Rattle.net_record.specs.Reached.IsReached.{starts, turns, settles}
 use Rattle.net_agree.proofs.RecordedTold.{AreToldBy, told_after, told_at_start, told_settle}
 
 -- ---- what is said of a settle

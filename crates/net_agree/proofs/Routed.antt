@@ -27,8 +27,8 @@ use Rattle.net_record.specs.Answers.{giving_of, desks_asked}
 use Rattle.net_record.specs.World.{WorldState, world_of, start, deliver, waiting, reader_of, turn_of, turn_by, turn, issue, driver_clock, settle, greatest_clock}
 use Rattle.net_record.specs.Run.{begin}
 use Rattle.net_record.proofs.Delivered.{length-deliver}
-use Rattle.net_agree.specs.Reached.{IsReached}
-use Rattle.net_agree.specs.Reached.IsReached.{starts, turns, settles}
+use Rattle.net_record.specs.Reached.{IsReached}
+use Rattle.net_record.specs.Reached.IsReached.{starts, turns, settles}
 use Rattle.net_agree.specs.Routed.{IsStoreAt, MayWaitFor, KnowsPeers, IsRouted, RunsAreRouted}
 use Rattle.net_agree.proofs.RoutedLanes.{lane_is, port_is, IsDelivered, delivered_is}
 use Rattle.net_agree.proofs.RoutedSends.{quiet_may_wait, part_sends}

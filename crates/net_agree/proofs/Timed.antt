@@ -14,7 +14,7 @@ use Rattle.net_record.specs.Phases.{phases}
 use Rattle.net_record.specs.Answers.{desks_asked}
 use Rattle.net_record.specs.World.{WorldState, start, waiting, reader_of, settle}
 use Rattle.net_record.specs.Run.{begin}
-use Rattle.net_agree.specs.Reached.{IsReached, starts, turns, settles}
+use Rattle.net_record.specs.Reached.{IsReached, starts, turns, settles}
 use Rattle.net_agree.specs.Routed.{IsStoreAt}
 use Rattle.net_agree.specs.Timed.{IsFrom, IsUntil, RunsAreTimed}
 use Rattle.net_agree.proofs.CountedStores.{store_there}

@@ -4,7 +4,7 @@ use Rattle.kv_store.specs.Store.{StoreState}
 use Rattle.net_laboratory.specs.Scenario.{Laboratory}
 use Rattle.net_record.specs.declared.phase.Phase.{Phase}
 use Rattle.net_record.specs.World.{WorldState}
-use Rattle.net_agree.specs.Reached.{IsReached}
+use Rattle.net_record.specs.Reached.{IsReached}
 use Rattle.net_agree.specs.Routed.{IsStoreAt}
 
 -- after so many turns a store has no more peers than turns, and gave each turn at most as many numbers

@@ -1,4 +1,3 @@
-pub mod Reached
 pub mod Routed
 pub mod Timed
 pub mod Counted

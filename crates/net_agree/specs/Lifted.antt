@@ -22,7 +22,7 @@ use Rattle.net_record.specs.declared.actor.ActorState.{ActorState}
 use Rattle.net_record.specs.declared.wire.Wire.{Wire}
 use Rattle.net_record.specs.Roles.{roles}
 use Rattle.net_record.specs.World.{WorldState, reader_of}
-use Rattle.net_agree.specs.Reached.{IsReached}
+use Rattle.net_record.specs.Reached.{IsReached}
 use Rattle.net_agree.specs.Routed.{IsStoreAt, AreEnds}
 
 -- ---- what a store took

@@ -22,7 +22,7 @@ use Rattle.net_record.specs.Roles.{roles}
 use Rattle.net_record.specs.Wires.{wires}
 use Rattle.net_record.specs.Actors.{store_of}
 use Rattle.net_record.specs.World.{WorldState, waiting}
-use Rattle.net_agree.specs.Reached.{IsReached}
+use Rattle.net_record.specs.Reached.{IsReached}
 
 -- ---- who is where
 

@@ -9,7 +9,7 @@ use Rattle.net_record.specs.declared.phase.Phase.{Phase}
 use Rattle.net_record.specs.declared.actor.ActorState.{ActorState}
 use Rattle.net_record.specs.Actors.{store_of}
 use Rattle.net_record.specs.World.{WorldState, is_drained}
-use Rattle.net_agree.specs.Reached.{IsReached}
+use Rattle.net_record.specs.Reached.{IsReached}
 use Rattle.net_agree.specs.Lifted.{trace_at}
 
 -- a store as a settle sees it, by its number

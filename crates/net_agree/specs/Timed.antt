@@ -9,7 +9,7 @@ use Rattle.net_laboratory.specs.Sound.{is_sound}
 use Rattle.net_record.specs.declared.phase.Phase.{Phase}
 use Rattle.net_record.specs.declared.wire.Wire.{Wire}
 use Rattle.net_record.specs.World.{WorldState, waiting}
-use Rattle.net_agree.specs.Reached.{IsReached}
+use Rattle.net_record.specs.Reached.{IsReached}
 use Rattle.net_agree.specs.Routed.{IsStoreAt}
 
 -- a tick is to this moment or to a later one, and to this moment or to an earlier one

@@ -1,5 +1,5 @@
--- At every moment of a phase by round robin a desk has seen what the settle before told, its open questions found no
--- less, and it has no more of them than the phase asks.
+-- At every moment of a phase a desk has seen what the settle before told, its open questions found no
+-- less, and it has no more of them than the phase asks. So it is under any legal schedule.
 use Rattle.std.proofs.Common.{◌≡◌, ℕ, zero, suc, ◌+◌, ◌≤◌, inl, inr, List, [], ◌∷◌, ◌++◌, Option, Some, None, length, map, get_or, set, refl, sym, ap, ◌∙◌, subst, arith, get_or-set_same, get_or-set_other}
 use Rattle.std.specs.Prelude.{slice_get, is_some, All}
 use Rattle.std.specs.List.{flat_map, enumerate_from}
@@ -24,14 +24,13 @@ use Rattle.net_record.specs.Roles.{modules_of, node_roles, link_role, roles}
 use Rattle.net_record.specs.Wires.{wires}
 use Rattle.net_record.specs.Kinds.{module_step}
 use Rattle.net_record.specs.Desk.{DeskState, new_desk, key_asked, with_question, desk_after}
-use Rattle.net_record.specs.Actors.{no_actor, actor_at, new_part, new_actor, desk_of, entries_of, range_asked, range_for, part_step, actor_after, outputs_of, made_by}
+use Rattle.net_record.specs.Actors.{Range, no_actor, actor_at, new_part, new_actor, desk_of, entries_of, range_asked, range_for, part_step, actor_after, outputs_of, made_by}
 use Rattle.net_record.specs.Answers.{desks_asked}
 use Rattle.net_record.specs.World.{WorldState, start, waiting, turn, turn_of, turn_by, reader_of, range, range_by, issue, driver_clock, deliver}
 use Rattle.net_record.specs.Rounds.{longest}
 use Rattle.net_record.specs.Answered.{entries_told}
 use Rattle.net_record.proofs.KindsGrow.{part_longer}
-use Rattle.net_record.proofs.Found.{entries_at, set_longer, there}
-use Rattle.net_record.proofs.Kept.{TurnsKeep}
+use Rattle.net_record.proofs.Found.{entries_at, FoundWithin, DesksFind, set_longer, there, range_holds}
 use Rattle.net_record.proofs.Drained.{none_wait}
 use Rattle.net_record.proofs.Standing.{node_and_store, is_driver, standings, no_standing, stay_of}
 use Rattle.net_record.proofs.Places.{how_many, stores_before, standings_at_start, standings-new, standing_here, desk_here}
@@ -47,12 +46,13 @@ pub record IsOpen (told entries : ℕ) (q : Question) : Type 0 where
   pub within : q.at ≤ entries
 
 -- A desk among these actors, where the settle before told so much of each store, so many questions wait for the desk,
--- and so many are asked of it in the phase.
+-- and so many are asked of it in the phase. What it found last is the most that it has seen.
 pub record IsAttentive (told : ℕ → ℕ) (actors : List ActorState) (waits asked : ℕ) (d : DeskState) : Type 0 where
   pub least : told d.store ≤ d.seen
   pub most : d.seen ≤ entries_at actors d.store
   pub questions : All (IsOpen (told d.store) (entries_at actors d.store)) d.questions
   pub few : length d.questions + waits ≤ asked
+  pub last : d.last ≡ d.seen
 
 open_longer : (told entries more : ℕ) (qs : List Question) → entries ≤ more → All (IsOpen told entries) qs → All (IsOpen told more) qs
 open_longer told entries more qs longer are k d within =
@@ -66,26 +66,32 @@ attentive_longer told actors after waits fewer asked d longer less is = record {
   most = omega (arith, is.most, longer);
   questions = open_longer (told d.store) (entries_at actors d.store) (entries_at after d.store) d.questions longer is.questions;
   few = omega (arith, is.few, less);
+  last = is.last;
 }
 
--- a desk that is asked finds the whole journal
+-- a length is one of these
+abbrev pub IsWithin : Range → ℕ → Type 0
+IsWithin range at = (range.least ≤ at) × (at ≤ range.most)
+
+-- a desk that is asked finds no less than it found last
 attentive_question : (told : ℕ → ℕ) (actors after : List ActorState) (waits fewer asked at : ℕ) (d : DeskState) (key : Option (List ℕ))
-    → entries_at actors d.store ≤ entries_at after d.store → at ≡ (range_asked actors (Some d) key).most → fewer + how_many (is_some key ∷ []) ≤ waits
+    → entries_at actors d.store ≤ entries_at after d.store → IsWithin (range_asked actors (Some d) key) at → fewer + how_many (is_some key ∷ []) ≤ waits
     → IsAttentive told actors waits asked d → IsAttentive told after fewer asked (with_question d key at)
 attentive_question told actors after waits fewer asked at d None longer found less is =
     attentive_longer told actors after waits fewer asked d longer (omega (arith, less)) is
 attentive_question told actors after waits fewer asked at d (Some key) longer found less is =
     let q : Question = record { key = key; at = at; seen = d.seen } in
     let more = entries_at after d.store in
-    let here : IsOpen (told d.store) more q = record { seen = is.least; found = omega (arith, is.most, found); within = omega (arith, longer, found) } in
+    let here : IsOpen (told d.store) more q = record { seen = is.least; found = omega (arith, is.last, found.0); within = omega (arith, longer, found.1) } in
     record {
       least = omega (arith, is.least);
-      most = omega (arith, is.most, longer, found);
+      most = omega (arith, is.most, longer, found.1);
       questions =
           All-append (IsOpen (told d.store) more) d.questions (q ∷ [])
           (open_longer (told d.store) (entries_at actors d.store) more d.questions longer is.questions)
           (All-cons (IsOpen (told d.store) more) q [] here (All-nil (IsOpen (told d.store) more)));
       few = omega (arith, is.few, less, length_push d.questions q);
+      last = omega (arith, is.last, found.0);
     }
 
 -- ---- a world
@@ -145,7 +151,7 @@ own_item number s = rw (eq-eqb number number refl) refl
 
 attend_desk : (lab : Laboratory) (marks : List NodeMark) (asked : List ℕ) (w : WorldState) (reader : ℕ) (others : List Stamped) (actor : ActorState) (m : TurnMade)
     → Attends lab marks asked w → slice_get w.actors reader ≡ Some actor → waiting w m.lane ≡ m.taken ∷ others → reader ≡ reader_of (slice_get w.wires m.lane)
-    → m.at ≡ (range_for w.actors actor.part m.taken.item).most
+    → IsWithin (range_for w.actors actor.part m.taken.item) m.at
     → (number : ℕ) (d : DeskState) → desk_of (actor_at (set w.actors reader (actor_after actor m)) number).part ≡ Some d
     → standings (set w.actors reader (actor_after actor m)) ≡ standings_at_start (roles lab)
     → IsAttentive (told_of_store lab marks) (set w.actors reader (actor_after actor m)) (questions_waiting number (turn_of w reader others actor m).lanes (turn_of w reader others actor m).wires)
@@ -166,10 +172,10 @@ attend_desk lab marks asked w reader others actor m h e front reads found number
           let mine = ap (λ n. actor_at after n) same ∙ get_or-set_same w.actors reader (actor_after actor m) no_actor here.0 in
           let was = desk_before actor.part m.lane m.taken.item m.at d (ap (λ (a : ActorState). desk_of a.part) (sym mine) ∙ is) in
           let old = h.desks number was.0 (ap (λ n. desk_of (actor_at w.actors n).part) same ∙ ap (λ (a : ActorState). desk_of a.part) here.1 ∙ was.1) in
-          let most = found ∙ ap (λ desk. (range_asked w.actors desk (key_asked m.taken.item)).most) was.1 in
+          let within = subst (λ desk. IsWithin (range_asked w.actors desk (key_asked m.taken.item)) m.at) was.1 found in
           let taken = ap (λ n. questions_on number n (m.taken ∷ [])) (sym same) ∙ own_item number m.taken in
           subst (IsAttentive told after fewer (how_often number asked)) was.2
-          (attentive_question told w.actors after waits fewer (how_often number asked) m.at was.0 (key_asked m.taken.item) (longer was.0.store) most
+          (attentive_question told w.actors after waits fewer (how_often number asked) m.at was.0 (key_asked m.taken.item) (longer was.0.store) within
           (omega (arith, less, taken)) old)
       | inr other ↦
           let theirs = get_or-set_other w.actors reader number (actor_after actor m) no_actor other in
@@ -179,7 +185,7 @@ attend_desk lab marks asked w reader others actor m h e front reads found number
 
 attend_of : (lab : Laboratory) (marks : List NodeMark) (asked : List ℕ) (w : WorldState) (reader : ℕ) (others : List Stamped) (actor : ActorState) (m : TurnMade)
     → Attends lab marks asked w → slice_get w.actors reader ≡ Some actor → waiting w m.lane ≡ m.taken ∷ others → reader ≡ reader_of (slice_get w.wires m.lane)
-    → m.at ≡ (range_for w.actors actor.part m.taken.item).most → Attends lab marks asked (turn_of w reader others actor m)
+    → IsWithin (range_for w.actors actor.part m.taken.item) m.at → Attends lab marks asked (turn_of w reader others actor m)
 unfolding turn_of
 attend_of lab marks asked w reader others actor m h e front reads found =
     let stand = stay_of w reader others actor m e ∙ h.stand in
@@ -191,17 +197,31 @@ attend_of lab marks asked w reader others actor m h e front reads found =
 
 attend_by : (lab : Laboratory) (marks : List NodeMark) (asked : List ℕ) (w : WorldState) (lane at reader : ℕ) (items : List Stamped) (actor : Option ActorState)
     → Attends lab marks asked w → slice_get w.actors reader ≡ actor → waiting w lane ≡ items → reader ≡ reader_of (slice_get w.wires lane)
-    → at ≡ (range_by w.actors items actor).most → Attends lab marks asked (turn_by w lane at reader items actor)
+    → IsWithin (range_by w.actors items actor) at → Attends lab marks asked (turn_by w lane at reader items actor)
 attend_by lab marks asked w lane at reader [] actor h e front reads found = h
 attend_by lab marks asked w lane at reader (s ∷ others) None h e front reads found = h
 attend_by lab marks asked w lane at reader (s ∷ others) (Some actor) h e front reads found =
     attend_of lab marks asked w reader others actor (made_by w.actors actor lane at s) h e front reads found
 
-pub turns_attend : (lab : Laboratory) (marks : List NodeMark) (asked : List ℕ) → TurnsKeep (Attends lab marks asked)
+-- a turn that finds a length that it may find
+pub attend_turn : (lab : Laboratory) (marks : List NodeMark) (asked : List ℕ) (w : WorldState) (lane at : ℕ) → IsWithin (range w lane) at
+    → Attends lab marks asked w → Attends lab marks asked (turn w lane at)
 unfolding turn range
-turns_attend lab marks asked w lane within h =
+attend_turn lab marks asked w lane at within h =
     let reader = reader_of (slice_get w.wires lane) in
-    attend_by lab marks asked w lane (longest w lane) reader (waiting w lane) (slice_get w.actors reader) h refl refl refl refl
+    attend_by lab marks asked w lane at reader (waiting w lane) (slice_get w.actors reader) h refl refl refl within
+
+found_if : (actors : List ActorState) (desk : Option DeskState) → ((d : DeskState) → desk ≡ Some d → d.last ≤ entries_at actors d.store) → FoundWithin actors desk
+found_if actors None each = tt
+found_if actors (Some d) each = each d refl
+
+attend_finds : (lab : Laboratory) (marks : List NodeMark) (asked : List ℕ) (w : WorldState) → Attends lab marks asked w → DesksFind w.actors
+attend_finds lab marks asked w h number =
+    found_if w.actors (desk_of (actor_at w.actors number).part) (λ d is. let a = h.desks number d is in omega (arith, a.last, a.most))
+
+-- the length of a round is one of them
+pub longest_within : (lab : Laboratory) (marks : List NodeMark) (asked : List ℕ) (w : WorldState) (lane : ℕ) → Attends lab marks asked w → IsWithin (range w lane) (longest w lane)
+longest_within lab marks asked w lane h = (range_holds w lane (attend_finds lab marks asked w h), omega arith)
 
 -- ---- the start and issues
 
@@ -217,18 +237,18 @@ attend_issue lab marks w issues h = record {
       let old = h.desks number d is in
       let clock = driver_clock w.actors in
       let sent = subst (λ ws. questions_waiting number (deliver ws 0 clock w.lanes issues) ws ≤ questions_waiting number w.lanes ws + how_often number (desks_asked issues)) (sym h.wired) (questions_waiting-issued (roles_after_driver lab) number clock w.lanes issues) in
-      record { least = old.least; most = old.most; questions = old.questions; few = omega (arith, old.few, sent) };
+      record { least = old.least; most = old.most; questions = old.questions; few = omega (arith, old.few, sent); last = old.last };
 }
 
-starts_new : (role : Role) (d : DeskState) → desk_of (new_part role) ≡ Some d → (d.seen ≡ 0) × (d.questions ≡ [])
+starts_new : (role : Role) (d : DeskState) → desk_of (new_part role) ≡ Some d → (d.seen ≡ 0) × (d.last ≡ 0) × (d.questions ≡ [])
 starts_new DriverRole d e = cc e
 starts_new (Node DeskRole node store) d e =
     let same : new_desk node store ≡ d = cc e in
-    (ap (λ (f : DeskState). f.seen) (sym same), ap (λ (f : DeskState). f.questions) (sym same))
+    (ap (λ (f : DeskState). f.seen) (sym same), ap (λ (f : DeskState). f.last) (sym same), ap (λ (f : DeskState). f.questions) (sym same))
 starts_new (Node _ node store) d e = cc e
 starts_new (LinkRole link a b) d e = cc e
 
-all_new : (all : List Role) (number : ℕ) (d : DeskState) → desk_of (actor_at (map new_actor all) number).part ≡ Some d → (d.seen ≡ 0) × (d.questions ≡ [])
+all_new : (all : List Role) (number : ℕ) (d : DeskState) → desk_of (actor_at (map new_actor all) number).part ≡ Some d → (d.seen ≡ 0) × (d.last ≡ 0) × (d.questions ≡ [])
 all_new [] number d e = cc e
 all_new (role ∷ all) zero d e = starts_new role d e
 all_new (role ∷ all) (suc number) d e = all_new all number d e
@@ -242,12 +262,13 @@ attend_start lab = record {
   stand = standings-new (roles lab);
   desks = λ number d is.
       let new = all_new (roles lab) number d is in
-      let none = ap length new.1 in
+      let none = ap length new.2 in
       let ws = wires (roles lab) in
       record {
         least = omega arith;
         most = omega (arith, new.0);
         questions = none_open (IsOpen 0 (entries_at (map new_actor (roles lab)) d.store)) d.questions (omega (arith, none));
         few = omega (arith, none, questions_waiting-drained number (start lab).lanes ws (none_wait (length ws)));
+        last = new.1 ∙ sym new.0;
       };
 }

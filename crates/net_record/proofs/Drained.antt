@@ -31,7 +31,7 @@ settles-turn_by w lane at reader [] actor = refl
 settles-turn_by w lane at reader (s ∷ others) None = refl
 settles-turn_by w lane at reader (s ∷ others) (Some actor) = settles-turn_of w reader others actor (made_by w.actors actor lane at s)
 
-settles-turn : (w : WorldState) (lane at : ℕ) → (turn w lane at).settles ≡ w.settles
+pub settles-turn : (w : WorldState) (lane at : ℕ) → (turn w lane at).settles ≡ w.settles
 unfolding turn
 settles-turn w lane at =
     let reader = reader_of (slice_get w.wires lane) in

@@ -66,7 +66,7 @@ fronts_equal js ks e = subst (AllFronts js) (sym e) (fronts_same js)
 abbrev pub Grow : WorldState → WorldState → Type 0
 Grow w v = AllFronts (journals_of w.actors) (journals_of v.actors)
 
-grow_then : (w v u : WorldState) → Grow w v → Grow v u → Grow w u
+pub grow_then : (w v u : WorldState) → Grow w v → Grow v u → Grow w u
 grow_then w v u = fronts_then (journals_of w.actors) (journals_of v.actors) (journals_of u.actors)
 
 grow_same : (w : WorldState) → Grow w w
@@ -152,7 +152,7 @@ grow_settle moment asked w =
     fronts_equal (journals_of w.actors) (journals_of (actors_after_settle clock g.actors))
     (journals_settled clock (journal_lengths g.actors) g.actors ∙ journals_give_all (record { actors = w.actors; answers = [] }) asked)
 
-grow_issue : (w : WorldState) (issues : List Output) → Grow w (issue w issues)
+pub grow_issue : (w : WorldState) (issues : List Output) → Grow w (issue w issues)
 unfolding issue
 grow_issue w issues = grow_same w
 
@@ -165,12 +165,12 @@ runs_grow w = record {
   settles = λ moment asked v drained f. grow_then w v (settle moment asked v) f (grow_settle moment asked v);
 }
 
-pub grow_rounds_from : (number : ℕ) (m : Marked) (phases : List Phase) → Grow m.world (rounds_from number m phases).last.world
+grow_rounds_from : (number : ℕ) (m : Marked) (phases : List Phase) → Grow m.world (rounds_from number m phases).last.world
 grow_rounds_from number m phases = keep_rounds_from (Grow m.world) (runs_grow m.world) number m phases (grow_same m.world)
 
 -- ---- what settles tell
 
-abbrev Tell : List ActorState → Type 0
+abbrev pub Tell : List ActorState → Type 0
 Tell actors = (journals : List (List JournalEntry)) → AllFronts (journals_of actors) journals → journals_of actors ≡ fronts (marks_of actors) journals
 
 tell_actor : (store : Option StoreState) (told : ℕ) (actors : List ActorState) → Tell actors → (journals : List (List JournalEntry))
@@ -183,7 +183,7 @@ tell_actor (Some s) told actors others (whole ∷ journals) f =
     let first : take (length s.journal) whole ≡ s.journal = ap (take (length s.journal)) front.is ∙ take_at s.journal front.more (length s.journal) refl in
     rw (first, ← others journals f.1) refl
 
-tell : (actors : List ActorState) → Tell actors
+pub tell : (actors : List ActorState) → Tell actors
 tell [] [] f = refl
 tell [] (whole ∷ journals) f = absurd f
 tell (actor ∷ actors) journals f = tell_actor (store_of actor.part) actor.told actors (tell actors) journals f

@@ -1,10 +1,10 @@
--- The answers that settles tell are what journals hold. A settle answers each desk's open questions by the entries
+-- The answers that a settle tells are what journals hold. It answers each desk's open questions by the entries
 -- that each found, and these stay the first of the journal. It leaves no question, so that the next phase begins with
 -- none.
-use Rattle.std.proofs.Common.{◌≡◌, ℕ, zero, suc, ◌+◌, ◌≤◌, inl, inr, List, [], ◌∷◌, ◌++◌, Bool, true, false, ◌||◌, not, Option, Some, None, length, map, get_or, set, take, refl, sym, ap, ◌∙◌, subst, arith, append_assoc, get_or-set_other, length-drop}
+use Rattle.std.proofs.Common.{◌≡◌, ℕ, zero, suc, ◌+◌, ◌≤◌, inl, inr, List, [], ◌∷◌, ◌++◌, true, false, Option, Some, None, length, map, get_or, set, take, refl, sym, ap, ◌∙◌, subst, arith, get_or-set_other, length-drop}
 use Rattle.std.specs.Prelude.{slice_get, All, option_map, option_and_then, option_to_list}
 use Rattle.std.proofs.lemmas.Bool.{cases_eq, eq-eqb, ne_eqb, le-ltb}
-use Rattle.std.proofs.lemmas.List.{append-nil, take-append-le}
+use Rattle.std.proofs.lemmas.List.{take-append-le}
 use Rattle.std.proofs.lemmas.List.Elements.{All-append, All-nil, All-cons, All-drop}
 use Rattle.std.proofs.lemmas.Option.{slice_get_within, get_or_from_slice_get}
 use Rattle.std.proofs.Math.Seq.{map-set_same}
@@ -19,35 +19,27 @@ use Rattle.net_record.specs.declared.part.Part.{Part}
 use Rattle.net_record.specs.declared.part.Part.TheVariants.{Driver, Desk, Module}
 use Rattle.net_record.specs.declared.actor.ActorState.{ActorState}
 use Rattle.net_record.specs.declared.desk.Question.{Question}
-use Rattle.net_record.specs.declared.phase.Phase.{Phase}
 use Rattle.net_record.specs.declared.record.AnswerDone.{AnswerDone}
 use Rattle.net_record.specs.declared.record.NodeMark.{NodeMark}
 use Rattle.net_record.specs.declared.record.SettleDone.{SettleDone}
 use Rattle.net_record.specs.Roles.{roles}
-use Rattle.net_record.specs.Phases.{phases}
 use Rattle.net_record.specs.Desk.{DeskState, told_of, told_to, question_answer, without_question, desk_after_settle}
 use Rattle.net_record.specs.Actors.{no_actor, actor_at, desk_of, entries_of, journal_lengths, part_after_settle, actor_after_settle, actors_after_settle, answer_of_desk, answer_of, part_without_question, actor_without_question}
-use Rattle.net_record.specs.Answers.{Giving, desks_asked, give, give_all, giving_of}
-use Rattle.net_record.specs.World.{WorldState, start, is_drained, issue, settle, settle_done, greatest_clock, marks_of}
-use Rattle.net_record.specs.Budget.{is_over}
+use Rattle.net_record.specs.Answers.{Giving, give, give_all, giving_of}
+use Rattle.net_record.specs.World.{WorldState, is_drained, settle, settle_done, greatest_clock, marks_of}
 use Rattle.net_record.specs.Records.{journals_of}
-use Rattle.net_record.specs.Rounds.{Marked, phase_of, settle_after, round_robin}
-use Rattle.net_record.proofs.Counted.{rounds_from}
-use Rattle.net_record.specs.Answered.{entries_told, IsAnswered, AreAnsweredAfter, node_names, AnswersAreHeld, is_behind, NoneBehind}
+use Rattle.net_record.specs.Answered.{entries_told, IsAnswered, node_names, is_behind}
 use Rattle.net_record.proofs.Found.{entries_at, length_at, settled_long}
-use Rattle.net_record.proofs.RoundRuns.{goes_on, drained-or}
-use Rattle.net_record.proofs.Kept.{keep_rounds_of}
-use Rattle.net_record.proofs.Drained.{settles-rounds_of, settles-issue}
-use Rattle.net_record.proofs.Grown.{AllFronts, fronts_same, fronts_then, grow_settle, grow_rounds_from}
+use Rattle.net_record.proofs.Grown.{AllFronts}
 use Rattle.net_record.proofs.Standing.{node_and_store, standing_of, standings, stays_without, stay_settled}
 use Rattle.net_record.proofs.Places.{stores_before, journal_placed, mark_placed, standings_at_start, IsServed, desk_served, desk_here, store_here}
 use Rattle.net_record.proofs.Awaiting.{questions_waiting, questions_waiting-drained, how_often}
-use Rattle.net_record.proofs.Attentive.{IsOpen, IsAttentive, told_of_store, Attends, turns_attend, attend_issue, none_open, attend_start}
+use Rattle.net_record.proofs.Attentive.{IsOpen, IsAttentive, told_of_store, Attends, none_open}
 
 -- ---- the answers of a settle
 
 -- an answer is what the record's journals hold, and isn't behind
-abbrev AnswerHolds : Laboratory → List NodeMark → List NodeMark → List (List JournalEntry) → AnswerDone → Type 0
+abbrev pub AnswerHolds : Laboratory → List NodeMark → List NodeMark → List (List JournalEntry) → AnswerDone → Type 0
 AnswerHolds lab before marks journals answer = IsAnswered (node_names lab) before marks journals answer × (is_behind answer.told ≡ false)
 
 told_not_behind : (held : Option KvValue) → is_behind (told_of held) ≡ false
@@ -246,7 +238,7 @@ desk_settled lengths (Desk f) d e = (f, refl, cc e)
 desk_settled lengths (Module m) d e = cc e
 
 -- a settle and its answers
-record Settles (lab : Laboratory) (before : List NodeMark) (w after : WorldState) (journals : List (List JournalEntry)) : Type 0 where
+pub record Settles (lab : Laboratory) (before : List NodeMark) (w after : WorldState) (journals : List (List JournalEntry)) : Type 0 where
   pub settle : SettleDone
   pub is : after.settles ≡ w.settles ++ settle ∷ []
   pub answers : All (AnswerHolds lab before settle.nodes journals) settle.answers
@@ -272,9 +264,10 @@ attend_settled lab before w journals g clock number d stood fronts h drained is 
       most = omega (arith, seen, long);
       questions = none_open (IsOpen (told_of_store lab (marks_of w.actors) store) (entries_at after store)) was.0.questions (omega (arith, old.1));
       few = omega (arith, old.1, questions_waiting-drained number w.lanes w.wires drained);
+      last = refl;
     })
 
-settle_answers : (lab : Laboratory) (before : List NodeMark) (moment : ℕ) (asked : List ℕ) (w : WorldState) (journals : List (List JournalEntry))
+pub settle_answers : (lab : Laboratory) (before : List NodeMark) (moment : ℕ) (asked : List ℕ) (w : WorldState) (journals : List (List JournalEntry))
     → Attends lab before asked w → AllFronts (journals_of w.actors) journals → is_drained w ≡ true → Settles lab before w (settle moment asked w) journals
 unfolding settle
 settle_answers lab before moment asked w journals h fronts drained =
@@ -291,88 +284,3 @@ settle_answers lab before moment asked w journals h fronts drained =
         desks = λ number d is. attend_settled lab before w journals g clock number d h.stand fronts gives drained is;
       };
     }
-
--- ---- a run
-
-abbrev NotBehind : SettleDone → Type 0
-NotBehind settle = All (λ answer. is_behind answer.told ≡ false) settle.answers
-
--- the settles of phases, behind those before them, and their answers
-record Answered (lab : Laboratory) (before : List NodeMark) (earlier later : List SettleDone) (journals : List (List JournalEntry)) : Type 0 where
-  pub settles : List SettleDone
-  pub is : later ≡ earlier ++ settles
-  pub held : AreAnsweredAfter (node_names lab) before settles journals
-  pub fair : All NotBehind settles
-
-one_settle : (lab : Laboratory) (before : List NodeMark) (earlier : List SettleDone) (w after last : WorldState) (journals : List (List JournalEntry)) → w.settles ≡ earlier
-    → (s : Settles lab before w after journals) → Answered lab s.settle.nodes after.settles last.settles journals → Answered lab before earlier last.settles journals
-one_settle lab before earlier w after last journals same s rest = record {
-  settles = s.settle ∷ rest.settles;
-  is =
-      rest.is ∙ ap (λ ss. ss ++ rest.settles) (s.is ∙ ap (λ ss. ss ++ s.settle ∷ []) same)
-      ∙ append_assoc earlier (s.settle ∷ []) rest.settles;
-  held = (λ k d within. (s.answers k d within).0, rest.held);
-  fair = All-cons NotBehind s.settle rest.settles (λ k d within. (s.answers k d within).1) rest.fair;
-}
-
-none_more : (lab : Laboratory) (before : List NodeMark) (earlier later : List SettleDone) (journals : List (List JournalEntry)) → later ≡ earlier
-    → Answered lab before earlier later journals
-none_more lab before earlier later journals same =
-    record { settles = []; is = same ∙ sym (append-nil earlier); held = tt; fair = All-nil NotBehind }
-
-abbrev AnswerPhases : Laboratory → List Phase → Type 0
-AnswerPhases lab phases =
-    (number : ℕ) (m : Marked) (before : List NodeMark) (journals : List (List JournalEntry)) → Attends lab before [] m.world
-    → AllFronts (journals_of (rounds_from number m phases).last.world.actors) journals
-    → Answered lab before m.world.settles (rounds_from number m phases).last.world.settles journals
-
-answer_goes_on : (lab : Laboratory) (unsettled over : Bool) (number : ℕ) (before : List NodeMark) (earlier : List SettleDone) (phase : Phase) (done : Marked) (phases : List Phase) (journals : List (List JournalEntry))
-    → is_over done.world || not (is_drained done.world) ≡ unsettled → done.world.settles ≡ earlier → AnswerPhases lab phases → Attends lab before (desks_asked phase.issues) done.world
-    → AllFronts (journals_of (goes_on unsettled over number done (settle_after phase done) phases).last.world.actors) journals
-    → Answered lab before earlier (goes_on unsettled over number done (settle_after phase done) phases).last.world.settles journals
-answer_goes_on lab true over number before earlier phase done phases journals e same others h f = none_more lab before earlier done.world.settles journals same
-answer_goes_on lab false true number before earlier phase done phases journals e same others h f =
-    let w = done.world in
-    let asked = desks_asked phase.issues in
-    let next = settle phase.moment asked w in
-    let here = fronts_then (journals_of w.actors) (journals_of next.actors) journals (grow_settle phase.moment asked w) f in
-    let s = settle_answers lab before phase.moment asked w journals h here (drained-or (is_over w) (is_drained w) e) in
-    one_settle lab before earlier w next next journals same s (none_more lab s.settle.nodes next.settles next.settles journals refl)
-answer_goes_on lab false false number before earlier phase done phases journals e same others h f =
-    let w = done.world in
-    let asked = desks_asked phase.issues in
-    let m = settle_after phase done in
-    let next = settle phase.moment asked w in
-    let last = (rounds_from (number + 1) m phases).last.world in
-    let later = fronts_then (journals_of next.actors) (journals_of last.actors) journals (grow_rounds_from (number + 1) m phases) f in
-    let here = fronts_then (journals_of w.actors) (journals_of next.actors) journals (grow_settle phase.moment asked w) later in
-    let s = settle_answers lab before phase.moment asked w journals h here (drained-or (is_over w) (is_drained w) e) in
-    one_settle lab before earlier w next last journals same s (others (number + 1) m s.settle.nodes journals s.attends f)
-
-answer_phases : (lab : Laboratory) (phases : List Phase) → AnswerPhases lab phases
-answer_phases lab [] number m before journals h f = none_more lab before m.world.settles m.world.settles journals refl
-answer_phases lab (phase ∷ phases) number m before journals h f =
-    let begun : Marked = record { world = issue m.world phase.issues; marks = m.marks } in
-    let done = phase_of m phase in
-    let next = settle_after phase done in
-    let asked = desks_asked phase.issues in
-    answer_goes_on lab (is_over done.world || not (is_drained done.world)) (is_over next.world) number before m.world.settles phase done phases journals refl
-    (settles-rounds_of begun phase.rounds ∙ settles-issue m.world phase.issues) (answer_phases lab phases)
-    (keep_rounds_of (Attends lab before asked) (turns_attend lab before asked) begun phase.rounds (attend_issue lab before m.world phase.issues h)) f
-
-answers_of_run : (lab : Laboratory) → Answered lab [] [] (round_robin lab).last.world.settles (journals_of (round_robin lab).last.world.actors)
-unfolding round_robin
-answers_of_run lab =
-    let m : Marked = record { world = start lab; marks = [] } in
-    let last = (rounds_from 1 m (phases lab)).last.world in
-    answer_phases lab (phases lab) 1 m [] (journals_of last.actors) (attend_start lab) (fronts_same (journals_of last.actors))
-
-pub answers_are_held : AnswersAreHeld
-answers_are_held lab =
-    let is = answers_of_run lab in
-    subst (λ ss. AreAnsweredAfter (node_names lab) [] ss (journals_of (round_robin lab).last.world.actors)) (sym is.is) is.held
-
-pub none_is_behind : NoneBehind
-none_is_behind lab =
-    let is = answers_of_run lab in
-    subst (All NotBehind) (sym is.is) is.fair

@@ -11,6 +11,7 @@ pub mod Turns
 pub mod Found
 pub mod RoundTurns
 pub mod RoundRuns
+pub mod GivenRuns
 pub mod Kept
 pub mod Drained
 pub mod Grown
@@ -19,6 +20,9 @@ pub mod Places
 pub mod Awaiting
 pub mod Attentive
 pub mod Held
+pub mod RunsHeld
 pub mod Tellers
 pub mod SyncsTold
+pub mod GivenRounds
+pub mod RunsTell
 pub mod Examples

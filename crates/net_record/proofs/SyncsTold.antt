@@ -26,15 +26,17 @@ use Rattle.net_record.specs.declared.kinds.AnyModule.TheVariants.{Store}
 use Rattle.net_record.specs.declared.part.Part.{Part}
 use Rattle.net_record.specs.declared.part.Part.TheVariants.{Driver, Desk, Module}
 use Rattle.net_record.specs.declared.actor.ActorState.{ActorState}
+use Rattle.net_record.specs.declared.phase.Phase.{Phase}
 use Rattle.net_record.specs.declared.record.SettleDone.{SettleDone}
 use Rattle.net_record.specs.Roles.{roles}
 use Rattle.net_record.specs.Kinds.{module_step, store_in}
 use Rattle.net_record.specs.Actors.{new_part, new_actor, store_of, part_step, made_by, actor_after, journal_lengths, actors_after_settle}
 use Rattle.net_record.specs.Answers.{giving_of}
 use Rattle.net_record.specs.Answered.{no_mark}
-use Rattle.net_record.specs.World.{WorldState, waiting, turn, turn_of, turn_by, reader_of, is_drained, issue, settle, settle_done, greatest_clock}
+use Rattle.net_record.specs.World.{WorldState, start, waiting, turn, turn_of, turn_by, reader_of, is_drained, issue, settle, settle_done, greatest_clock}
 use Rattle.net_record.specs.Budget.{is_too_heavy, has_spent_turns, is_over}
 use Rattle.net_record.specs.Rounds.{longest, round_robin}
+use Rattle.net_record.specs.Run.{begin}
 use Rattle.net_record.specs.Syncs.{syncs_told, SyncsDiffer}
 use Rattle.net_record.proofs.Found.{there}
 use Rattle.net_record.proofs.RoundTurns.{not_drained}
@@ -43,7 +45,7 @@ use Rattle.net_record.proofs.Tellers.{Teller, tellers_by, tellers_of, teller_in,
 
 -- What is kept of a store after so many turns, of whose full syncs settles told these: its numbers are apart, and these
 -- are the front of all that it finished.
-record IsToldOf (turns : ℕ) (syncs : List SyncDone) (t : Teller) : Type 0 where
+pub record IsToldOf (turns : ℕ) (syncs : List SyncDone) (t : Teller) : Type 0 where
   pub numbered : IsNumbered turns t.store
   pub left : List SyncDone
   pub all : t.store.done ≡ syncs ++ left
@@ -91,21 +93,37 @@ keep_actor turns actors reader actor m e place =
     (keep_part turns actor.told actor.part m.lane m.taken.item m.at)) place
 
 -- what is kept of a world
-record AreTold (w : WorldState) : Type 0 where
-  pub few : length w.turns ≤ most_turns
-  pub told : (place : ℕ) → IsToldOf (length w.turns) (syncs_told place w.settles) (teller_at w.actors place)
+abbrev pub AreTold : WorldState → Type 0
+AreTold w = (place : ℕ) → IsToldOf (length w.turns) (syncs_told place w.settles) (teller_at w.actors place)
 
-told_after : (w : WorldState) (reader : ℕ) (others : List Stamped) (actor : ActorState) (m : TurnMade) → slice_get w.actors reader ≡ Some actor → length w.turns < most_turns
+told_after : (w : WorldState) (reader : ℕ) (others : List Stamped) (actor : ActorState) (m : TurnMade) → slice_get w.actors reader ≡ Some actor
     → AreTold w → AreTold (turn_of w reader others actor m)
 unfolding turn_of
-told_after w reader others actor m e more h =
-    let long = length_push w.turns (turn_done m) in
-    record {
-      few = omega (arith, long, more);
-      told = λ place.
-          subst (λ turns. IsToldOf turns (syncs_told place w.settles) (teller_at (set w.actors reader (actor_after actor m)) place)) (sym long)
-          (keep_actor (length w.turns) w.actors reader actor m e place (syncs_told place w.settles) (h.told place));
-    }
+told_after w reader others actor m e h place =
+    subst (λ turns. IsToldOf turns (syncs_told place w.settles) (teller_at (set w.actors reader (actor_after actor m)) place)) (sym (length_push w.turns (turn_done m)))
+    (keep_actor (length w.turns) w.actors reader actor m e place (syncs_told place w.settles) (h place))
+
+told_by : (w : WorldState) (lane at reader : ℕ) (items : List Stamped) (actor : Option ActorState) → slice_get w.actors reader ≡ actor
+    → AreTold w → AreTold (turn_by w lane at reader items actor)
+told_by w lane at reader [] actor e h = h
+told_by w lane at reader (s ∷ others) None e h = h
+told_by w lane at reader (s ∷ others) (Some actor) e h = told_after w reader others actor (made_by w.actors actor lane at s) e h
+
+pub told_turn : (w : WorldState) (lane at : ℕ) → AreTold w → AreTold (turn w lane at)
+unfolding turn
+told_turn w lane at h =
+    let reader = reader_of (slice_get w.wires lane) in
+    told_by w lane at reader (waiting w lane) (slice_get w.actors reader) refl h
+
+-- ---- how many turns
+
+-- no more turns than the budget allows
+abbrev pub HasFewTurns : WorldState → Type 0
+HasFewTurns w = length w.turns ≤ most_turns
+
+few_after : (w : WorldState) (reader : ℕ) (others : List Stamped) (actor : ActorState) (m : TurnMade) → length w.turns < most_turns → HasFewTurns (turn_of w reader others actor m)
+unfolding turn_of
+few_after w reader others actor m more = omega (arith, length_push w.turns (turn_done m), more)
 
 may_turn : (heavy spent drained : Bool) → (heavy || (spent && not drained)) ≡ false → drained ≡ false → spent ≡ false
 may_turn true spent drained over waits = cc
@@ -113,24 +131,32 @@ may_turn false true true over waits = cc
 may_turn false true false over waits = cc
 may_turn false false drained over waits = refl
 
-few_turns : (w : WorldState) → is_over w ≡ false → is_drained w ≡ false → length w.turns < most_turns
+less_turns : (w : WorldState) → is_over w ≡ false → is_drained w ≡ false → length w.turns < most_turns
 unfolding is_over
-few_turns w over waits =
+less_turns w over waits =
     leb-false most_turns (length w.turns) (may_turn (is_too_heavy w.turns w.settles) (has_spent_turns w.turns) (is_drained w) over waits)
 
-told_by : (w : WorldState) (lane at reader : ℕ) (items : List Stamped) (actor : Option ActorState) → waiting w lane ≡ items → slice_get w.actors reader ≡ actor → is_over w ≡ false
-    → AreTold w → AreTold (turn_by w lane at reader items actor)
-told_by w lane at reader [] actor waits e over h = h
-told_by w lane at reader (s ∷ others) None waits e over h = h
-told_by w lane at reader (s ∷ others) (Some actor) waits e over h =
+few_by : (w : WorldState) (lane at reader : ℕ) (items : List Stamped) (actor : Option ActorState) → waiting w lane ≡ items → is_over w ≡ false
+    → HasFewTurns w → HasFewTurns (turn_by w lane at reader items actor)
+few_by w lane at reader [] actor waits over h = h
+few_by w lane at reader (s ∷ others) None waits over h = h
+few_by w lane at reader (s ∷ others) (Some actor) waits over h =
     let one : 1 ≤ length (waiting w lane) = omega (arith, ap length waits) in
-    told_after w reader others actor (made_by w.actors actor lane at s) e (few_turns w over (not_drained w lane (1 ∷ []) (one, tt) refl)) h
+    few_after w reader others actor (made_by w.actors actor lane at s) (less_turns w over (not_drained w lane (1 ∷ []) (one, tt) refl))
 
-told_turn : (w : WorldState) (lane at : ℕ) → is_over w ≡ false → AreTold w → AreTold (turn w lane at)
+few_turn : (w : WorldState) (lane at : ℕ) → is_over w ≡ false → HasFewTurns w → HasFewTurns (turn w lane at)
 unfolding turn
-told_turn w lane at over h =
+few_turn w lane at over h =
     let reader = reader_of (slice_get w.wires lane) in
-    told_by w lane at reader (waiting w lane) (slice_get w.actors reader) refl refl over h
+    few_by w lane at reader (waiting w lane) (slice_get w.actors reader) refl over h
+
+few_issue : (w : WorldState) (issues : List Output) → HasFewTurns w → HasFewTurns (issue w issues)
+unfolding issue
+few_issue w issues h = h
+
+few_settle : (moment : ℕ) (asked : List ℕ) (w : WorldState) → HasFewTurns w → HasFewTurns (settle moment asked w)
+unfolding settle
+few_settle moment asked w h = h
 
 -- ---- the start, issues and settles
 
@@ -152,7 +178,11 @@ told_roles (role ∷ all) place = start_head role (tellers_of (map new_actor all
 
 told_issue : (w : WorldState) (issues : List Output) → AreTold w → AreTold (issue w issues)
 unfolding issue
-told_issue w issues h = record { few = h.few; told = h.told }
+told_issue w issues h = h
+
+pub told_begin : (w : WorldState) (phases : List Phase) → AreTold w → AreTold (begin w phases)
+told_begin w [] h = h
+told_begin w (phase ∷ phases) h = told_issue w phase.issues h
 
 -- what one settle more tells
 syncs_more : (place : ℕ) (settles : List SettleDone) (s : SettleDone) → syncs_told place (settles ++ s ∷ []) ≡ syncs_told place settles ++ (get_or s.nodes place no_mark).syncs
@@ -172,33 +202,40 @@ settle_tells turns syncs more t e h =
       count = ap length all;
     }
 
-told_settle : (moment : ℕ) (asked : List ℕ) (w : WorldState) → AreTold w → AreTold (settle moment asked w)
+pub told_settle : (moment : ℕ) (asked : List ℕ) (w : WorldState) → AreTold w → AreTold (settle moment asked w)
 unfolding settle
-told_settle moment asked w h =
+told_settle moment asked w h place =
     let g = giving_of w.actors asked in
     let clock = greatest_clock w.actors + 1 in
     let done = settle_done moment (length w.turns) w.actors g.answers in
-    record {
-      few = h.few;
-      told = λ place.
-          let more = (get_or done.nodes place no_mark).syncs in
-          let after : teller_at (actors_after_settle clock g.actors) place ≡ told_all (teller_at w.actors place) =
-          settled_teller clock (journal_lengths g.actors) g.actors place
-          ∙ ap (λ tellers. told_all (teller_in tellers place)) (tellers_give_all (record { actors = w.actors; answers = [] }) asked) in
-          let told = settle_tells (length w.turns) (syncs_told place w.settles) more (teller_at w.actors place) (syncs_of_mark w.actors place) (h.told place) in
-          subst (λ syncs. IsToldOf (length w.turns) syncs (teller_at (actors_after_settle clock g.actors) place)) (sym (syncs_more place w.settles done))
-          (subst (λ t. IsToldOf (length w.turns) (syncs_told place w.settles ++ more) t) (sym after) told);
-    }
+    let more = (get_or done.nodes place no_mark).syncs in
+    let after : teller_at (actors_after_settle clock g.actors) place ≡ told_all (teller_at w.actors place) =
+    settled_teller clock (journal_lengths g.actors) g.actors place
+    ∙ ap (λ tellers. told_all (teller_in tellers place)) (tellers_give_all (record { actors = w.actors; answers = [] }) asked) in
+    let told = settle_tells (length w.turns) (syncs_told place w.settles) more (teller_at w.actors place) (syncs_of_mark w.actors place) (h place) in
+    subst (λ syncs. IsToldOf (length w.turns) syncs (teller_at (actors_after_settle clock g.actors) place)) (sym (syncs_more place w.settles done))
+    (subst (λ t. IsToldOf (length w.turns) (syncs_told place w.settles ++ more) t) (sym after) told)
 
 -- ---- a run
+
+pub told_start : (lab : Laboratory) → AreTold (start lab)
+told_start lab = told_roles (roles lab)
 
 told_robin : (lab : Laboratory) → AreTold (round_robin lab).last.world
 told_robin lab =
     keep_round_robin AreTold (record {
-      turns = λ w lane over h. told_turn w lane (longest w lane) over h;
+      turns = λ w lane over h. told_turn w lane (longest w lane) h;
       issues = told_issue;
       settles = λ moment asked w drained h. told_settle moment asked w h;
-    }) lab (record { few = omega arith; told = told_roles (roles lab) })
+    }) lab (told_start lab)
+
+pub few_robin : (lab : Laboratory) → HasFewTurns (round_robin lab).last.world
+few_robin lab =
+    keep_round_robin HasFewTurns (record {
+      turns = λ w lane over h. few_turn w lane (longest w lane) over h;
+      issues = few_issue;
+      settles = λ moment asked w drained h. few_settle moment asked w h;
+    }) lab (omega arith)
 
 -- a front has numbers of its own, where the whole has
 front_apart : (front rest : List SyncDone) → AllPairs HaveOwnNumbers (front ++ rest) → AllPairs HaveOwnNumbers front
@@ -215,8 +252,9 @@ apart_where_few turns syncs t few h =
     let apart = numbers_stay_apart.differ turns t.store h.numbered (omega (arith, square)) in
     front_apart syncs h.left (subst (AllPairs HaveOwnNumbers) h.all apart)
 
+-- the full syncs of one store that the settles of a world tell of, where few turns were done
+pub syncs_apart : (w : WorldState) → AreTold w → HasFewTurns w → (place : ℕ) → AllPairs HaveOwnNumbers (syncs_told place w.settles)
+syncs_apart w told few place = apart_where_few (length w.turns) (syncs_told place w.settles) (teller_at w.actors place) few (told place)
+
 pub syncs_differ : SyncsDiffer
-syncs_differ lab place =
-    let w = (round_robin lab).last.world in
-    let told = told_robin lab in
-    apart_where_few (length w.turns) (syncs_told place w.settles) (teller_at w.actors place) told.few (told.told place)
+syncs_differ lab = syncs_apart (round_robin lab).last.world (told_robin lab) (few_robin lab)

@@ -10,6 +10,8 @@ pub mod Weight
 pub mod Budget
 pub mod Rounds
 pub mod Run
+pub mod Reached
+pub mod Given
 pub mod Records
 pub mod Small
 pub mod Wired
@@ -19,3 +21,4 @@ pub mod Ports
 pub mod Answered
 pub mod Syncs
 pub mod Tells
+pub mod RunsTell

@@ -97,6 +97,13 @@ impl Desk {
         self.store
     }
 
+    /// The length that it found last. It takes no memory.
+    pub(crate) fn last(&self) -> u64
+        ensures { result ≡ self.now.last }
+    {
+        self.last
+    }
+
     /// A journal of this length is shown to it, before it takes the item, so that a question finds it. It takes no memory.
     #[tactic(auto, unfolding(crate::specs::Desk::desk_shown))]
     pub(crate) fn show(&mut self, item: &Item, at: u64)

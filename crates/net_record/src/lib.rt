@@ -16,10 +16,12 @@
 #![tactic(auto)]
 
 ghost use Rattle.net_record.specs.Run.{RoundsAreARun};
+ghost use Rattle.net_record.specs.Given.{GivenIsARun, RoundsAreGiven};
 ghost use Rattle.net_record.specs.Ends.{SettledRoundsEndDrained};
 ghost use Rattle.net_record.specs.Fronts.{SettlesTellStores};
 ghost use Rattle.net_record.specs.Answered.{AnswersAreHeld, NoneBehind};
 ghost use Rattle.net_record.specs.Syncs.{SyncsDiffer};
+ghost use Rattle.net_record.specs.RunsTell.{RunsTell};
 
 mod actor;
 mod answers;
@@ -50,7 +52,7 @@ pub use part::Part;
 pub use phase::Phase;
 pub use phasing::phases;
 pub use ports::{Port, Wiring};
-pub use questions::{answer_of, is_question, longest, made_for};
+pub use questions::{answer_of, is_in_range, is_question, longest, made_for};
 pub use record::{AnswerDone, NodeMark, Record, SettleDone};
 pub use role::{NodeModule, Role};
 pub use stamps::Stamps;
@@ -66,6 +68,17 @@ pub use wiring::wires;
 /// turns.
 pub fn rounds_are_a_run()
     ensures { RoundsAreARun }
+{}
+
+/// A run under given turns is the run of the same turns without a budget, where the budget isn't exceeded: it settles every
+/// phase just there, and the turn that is bad is the same.
+pub fn given_is_a_run()
+    ensures { GivenIsARun }
+{}
+
+/// Where round robin settles every phase of a laboratory, it ends as the run under the turns that it did.
+pub fn rounds_are_given()
+    ensures { RoundsAreGiven }
 {}
 
 /// Where round robin settles every phase of a laboratory, no item waits at its end, and each phase has its settle.
@@ -94,4 +107,9 @@ pub fn none_is_behind()
 /// number.
 pub fn syncs_differ()
     ensures { SyncsDiffer }
+{}
+
+/// What the settles of a run tell of stores, answers and finished full syncs is what was there, under any legal schedule.
+pub fn runs_tell()
+    ensures { RunsTell }
 {}

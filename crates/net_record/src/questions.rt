@@ -2,7 +2,7 @@
 
 ghost use Rattle.std.specs.Prelude.{◌≡◌, ◌<◌, ◌^◌, Some, None, is_some, length, option_map, if◌then◌else◌, IfOk};
 ghost use Rattle.net_record.specs.Desk.{key_asked};
-ghost use Rattle.net_record.specs.Actors.{actor_at, desk_of, entries_of, range_for, made_for, answer_of};
+ghost use Rattle.net_record.specs.Actors.{actor_at, desk_of, entries_of, range_for, made_for, answer_of, is_in_range};
 
 use crate::actor::ActorState;
 use crate::desk::Desk;
@@ -44,6 +44,18 @@ pub fn longest(actors: &[ActorState], part: &Part, item: &Item) -> u64
     match asked_desk(part, item) {
         Some(desk) => entries_at(actors, desk.store()).len() as u64,
         None => 0,
+    }
+}
+
+/// The turn of an actor with an item may find the length `at`: a desk that is asked finds one from that which it found last to
+/// that of its store's journal, and every other turn finds 0. It takes no memory.
+#[tactic(auto, unfolding(crate::specs::Actors::range_for), using(crate::proofs::Asking::asking))]
+pub fn is_in_range(actors: &[ActorState], part: &Part, item: &Item, at: u64) -> bool
+    ensures { result ≡ is_in_range (range_for actors.now part.now item.now) at }
+{
+    match asked_desk(part, item) {
+        Some(desk) => { desk.last() <= at && at <= entries_at(actors, desk.store()).len() as u64 }
+        None => at == 0,
     }
 }
 

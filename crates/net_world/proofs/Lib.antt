@@ -8,3 +8,4 @@ pub mod Weighed
 pub mod Turning
 pub mod Rounding
 pub mod Recorded
+pub mod GivenTurns

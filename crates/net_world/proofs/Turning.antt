@@ -1,5 +1,5 @@
 -- A turn, an issue and a settle, from what their parts made.
-use Rattle.std.proofs.Common.{◌≡◌, ℕ, ◌+◌, ◌<◌, List, [], ◌∷◌, ◌++◌, Some, None, true, length, get_or, set, drop, slice_get, refl, sym, ◌∙◌, ap}
+use Rattle.std.proofs.Common.{◌≡◌, ℕ, ◌+◌, ◌<◌, List, [], ◌∷◌, ◌++◌, Some, None, Bool, true, false, ◌&&◌, not, length, get_or, set, drop, slice_get, refl, sym, ◌∙◌, ap}
 use Rattle.std.proofs.lemmas.Option.{slice_get-get_or}
 use Rattle.or_base.specs.declared.item.Item.{Item}
 use Rattle.or_base.specs.declared.item.Stamped.{Stamped}
@@ -10,11 +10,12 @@ use Rattle.net_record.specs.declared.actor.ActorState.{ActorState}
 use Rattle.net_record.specs.declared.record.NodeMark.{NodeMark}
 use Rattle.net_record.specs.declared.record.SettleDone.{SettleDone}
 use Rattle.net_record.specs.declared.record.AnswerDone.{AnswerDone}
-use Rattle.net_record.specs.Actors.{no_actor, actor_at, range_for, made_by, outputs_of, actors_after_settle}
+use Rattle.net_record.specs.Actors.{no_actor, actor_at, Range, range_for, is_in_range, made_by, outputs_of, actors_after_settle}
 use Rattle.net_record.specs.Answers.{giving_of}
 use Rattle.net_record.specs.World.{WorldState, turn, turn_of, turn_by, reader_of, range, range_by, waiting, is_empty, deliver, driver_clock, greatest_clock, marks_of, issue, settle}
 use Rattle.net_record.specs.Rounds.{longest}
 use Rattle.net_world.specs.Acting.{made_from, actors_after}
+use Rattle.net_world.specs.Replaying.{may_find}
 
 turn_none : (w : WorldState) (lane at : ℕ) → waiting w lane ≡ [] → turn w lane at ≡ w
 unfolding turn
@@ -77,14 +78,14 @@ range_none w lane e =
 pub longest_none : (w : WorldState) (lane : ℕ) → None ≡ slice_get (waiting w lane) 0 → 0 ≡ longest w lane
 longest_none w lane e = sym (range_none w lane (nothing_first (waiting w lane) e))
 
-range_some : (w : WorldState) (lane reader : ℕ) (s : Stamped) (others : List Stamped) (actor : ActorState)
+range_is : (w : WorldState) (lane reader : ℕ) (s : Stamped) (others : List Stamped) (actor : ActorState)
     → reader_of (slice_get w.wires lane) ≡ reader → waiting w lane ≡ s ∷ others → slice_get w.actors reader ≡ Some actor
-    → (range w lane).most ≡ (range_for w.actors actor.part s.item).most
+    → range w lane ≡ range_for w.actors actor.part s.item
 unfolding range
-range_some w lane reader s others actor e h k =
-    ap (λ r. (range_by w.actors (get_or w.lanes lane []) (slice_get w.actors r)).most) e
-    ∙ ap (λ items. (range_by w.actors items (slice_get w.actors reader)).most) h
-    ∙ ap (λ a. (range_by w.actors (s ∷ others) a).most) k
+range_is w lane reader s others actor e h k =
+    ap (λ r. range_by w.actors (get_or w.lanes lane []) (slice_get w.actors r)) e
+    ∙ ap (λ items. range_by w.actors items (slice_get w.actors reader)) h
+    ∙ ap (λ a. range_by w.actors (s ∷ others) a) k
 
 -- this item waits longest
 pub longest_made : (w : WorldState) (lane reader : ℕ) (d : Wire) (s : Stamped) (most : ℕ)
@@ -94,8 +95,34 @@ pub longest_made : (w : WorldState) (lane reader : ℕ) (d : Wire) (s : Stamped)
 longest_made w lane reader d s most there reads first acts is =
     is
     ∙ sym
-    (range_some w lane reader s (drop 1 (waiting w lane)) (get_or w.actors reader no_actor) (reads_of w lane reader d there reads)
-    (some_first (waiting w lane) s first) (slice_get-get_or w.actors reader no_actor acts))
+    (ap (λ (r : Range). r.most)
+    (range_is w lane reader s (drop 1 (waiting w lane)) (get_or w.actors reader no_actor) (reads_of w lane reader d there reads)
+    (some_first (waiting w lane) s first) (slice_get-get_or w.actors reader no_actor acts)))
+
+-- ---- a length that a turn may find
+
+none_empty : (items : List Stamped) → None ≡ slice_get items 0 → is_empty items ≡ true
+none_empty [] e = refl
+none_empty (s ∷ others) e = cc e
+
+-- no item waits on the lane
+pub found_none : (w : WorldState) (lane at : ℕ) → None ≡ slice_get (waiting w lane) 0 → false ≡ may_find w lane at
+found_none w lane at e = rw (none_empty (waiting w lane) e) refl
+
+some_waits : (items : List Stamped) (s : Stamped) → Some s ≡ slice_get items 0 → is_empty items ≡ false
+some_waits [] s e = cc e
+some_waits (first ∷ others) s e = refl
+
+-- this item waits longest
+pub found_made : (w : WorldState) (lane at reader : ℕ) (d : Wire) (s : Stamped) {found : Bool}
+    → lane < length w.wires → reader ≡ (get_or w.wires lane d).reader → Some s ≡ slice_get (waiting w lane) 0 → reader < length w.actors
+    → found ≡ is_in_range (range_for w.actors (actor_at w.actors reader).part s.item) at
+    → found ≡ may_find w lane at
+found_made w lane at reader d s there reads first acts is =
+    let same : range w lane ≡ range_for w.actors (actor_at w.actors reader).part s.item =
+    range_is w lane reader s (drop 1 (waiting w lane)) (get_or w.actors reader no_actor) (reads_of w lane reader d there reads)
+    (some_first (waiting w lane) s first) (slice_get-get_or w.actors reader no_actor acts) in
+    is ∙ ap (λ r. is_in_range r at) (sym same) ∙ ap (λ e. not e && is_in_range (range w lane) at) (sym (some_waits (waiting w lane) s first))
 
 -- items were issued
 pub issue_is_made : (w : WorldState) (stamp : ℕ) (issues : List Output) (lanes : List (List Stamped)) → stamp ≡ driver_clock w.actors → lanes ≡ deliver w.wires 0 stamp w.lanes issues

@@ -22,3 +22,25 @@ impl From<NoMemory> for RunFault {
         RunFault::NoMemory
     }
 }
+
+/// Why a run under given turns came to no record of all its settles.
+#[derive(Drop)]
+pub enum ReplayFault {
+    /// The turn with this index (from 0) isn't legal, comes after the last settle, or is missing before it.
+    BadTurn { index: u64 },
+    /// The budget is exceeded in the phase that settle number `settle` (from 1) ends, or by that settle. The record is
+    /// that of the run so far.
+    Unsettled { settle: u64, done: Record },
+    /// Memory ran out.
+    NoMemory,
+}
+
+impl From<NoMemory> for ReplayFault {
+    ghost use Rattle.net_world.specs.declared.fault.ReplayFault.TheVariants.{NoMemory};
+
+    ghost from_gives = { λ _ fault. fault ≡ NoMemory };
+
+    fn from(_fault: NoMemory) -> ReplayFault {
+        ReplayFault::NoMemory
+    }
+}

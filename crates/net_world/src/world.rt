@@ -1,4 +1,5 @@
 ghost use Rattle.std.specs.Prelude.{◌≡◌, ◌-◌, ◌<◌, ◌^◌, IsTrue, length, IfOk, OnOk};
+ghost use Rattle.std.specs.Bool.{OnTrue};
 ghost use Rattle.or_actor.specs.Fits.{have_small_links};
 ghost use Rattle.net_record.specs.Records.{record_of};
 
@@ -8,10 +9,10 @@ use crate::clocks::{driver_clock, greatest_clock, settle_all};
 use crate::delivery::deliver;
 use crate::lanes::{Busy, Lanes};
 use crate::start::new_actors;
-use net_laboratory::{MOST_TURNS, Scenario};
+use net_laboratory::{MOST_TURNS, Scenario, Turn};
 use net_record::{
-    ActorState, MOST_WEIGHT, Record, SettleDone, Wiring, add_item, add_settle, journals_of,
-    longest, marks_of, roles, wires,
+    ActorState, MOST_WEIGHT, Record, SettleDone, Wiring, add_item, add_settle, is_in_range,
+    journals_of, longest, marks_of, roles, wires,
 };
 use or_actor::{Outbox, Output};
 use or_base::{NoMemory, Seq, TurnDone};
@@ -47,9 +48,12 @@ impl Model for World {
 
 impl World {
     ghost use Rattle.net_record.specs.World.{start, is_drained, turn, issue, settle};
-    ghost use Rattle.net_record.specs.Budget.{is_over};
+    ghost use Rattle.net_record.specs.Budget.{has_spent_turns, is_over};
     ghost use Rattle.net_record.specs.Rounds.{longest};
+    ghost use Rattle.net_record.specs.Run.{is_legal};
+    ghost use Rattle.net_record.specs.Given.{is_heavy};
     ghost use Rattle.net_world.specs.Busy.{busy_lanes};
+    ghost use Rattle.net_world.specs.Replaying.{may_find};
 
     /// The world of a scenario before anything is done.
     pub fn new(alloc: Global, scenario: &Scenario) -> Result<World, NoMemory>
@@ -80,11 +84,26 @@ impl World {
         self.lanes.are_empty()
     }
 
+    /// What was done weighs too much.
+    pub fn is_heavy(&self) -> bool
+        ensures { result ≡ is_heavy self.now }
+    {
+        MOST_WEIGHT < self.weight
+    }
+
+    /// As many turns as may be were done.
+    pub fn has_spent_turns(&self) -> bool
+        ensures { result ≡ has_spent_turns self.now.turns }
+    {
+        MOST_TURNS <= self.turns.len()
+    }
+
     /// The budget is exceeded: what was done weighs too much, or as many turns as may be were done and an item waits.
+    #[tactic(auto, unfolding(net_record::specs::Budget::is_over))]
     pub fn is_over(&self) -> bool
         ensures { result ≡ is_over self.now }
     {
-        MOST_WEIGHT < self.weight || (MOST_TURNS <= self.turns.len() && !self.is_drained())
+        self.is_heavy() || (self.has_spent_turns() && !self.is_drained())
     }
 
     /// The greatest length that the turn of a lane may find: for a question that of the store's journal, and else 0.
@@ -99,6 +118,30 @@ impl World {
             }
             None => 0,
         }
+    }
+
+    /// An item waits on the lane, and its turn may find the length `at`.
+    fn may_find(&self, lane: usize, at: u64) -> bool
+        ensures { result ≡ may_find self.now lane at }
+    {
+        match self.lanes.front(lane) {
+            Some(front) => {
+                let reader = &self.actors[self.wiring.reader(lane) as usize];
+                is_in_range(self.actors.as_slice(), &reader.part, &front.item, at)
+            }
+            None => false,
+        }
+    }
+
+    /// The turn is legal: an item waits on its lane, and its length is one that it may find.
+    #[tactic(auto, using(crate::proofs::GivenTurns::legal))]
+    pub fn is_legal(&self, turn: Turn) -> bool
+        ensures legal { result ≡ is_legal self.now turn }
+        ensures small { OnTrue result (turn.at < 2 ^ 63) }
+    {
+        let lane = turn.lane as usize;
+        // the greatest length is small, so that one that is legal fits
+        turn.at <= self.longest(lane) && self.may_find(lane, turn.at)
     }
 
     /// The turn of a lane: its reader takes the item that waits longest, and what it sends is put on the lanes of its
@@ -175,6 +218,14 @@ impl World {
         ensures { result ≡ length self.now.turns }
     {
         self.turns.len() as u64
+    }
+
+    /// How many settles are done. It takes no memory.
+    pub fn settle_count(&self) -> u64
+        ensures count { result ≡ length self.now.settles }
+        ensures small { result < 2 ^ 63 }
+    {
+        self.settles.len() as u64
     }
 
     /// The lanes on which an item waits, in order, with how many do.

@@ -1,4 +1,4 @@
-use Rattle.net_record.proofs.Held.{answers_are_held}
+use Rattle.net_record.proofs.RunsHeld.{answers_are_held}
 use Rattle.net_record.proofs.answers_are_held.Goals as goal
 
 pub returns : goal.returns

@@ -1,4 +1,4 @@
-use Rattle.net_record.proofs.Held.{none_is_behind}
+use Rattle.net_record.proofs.RunsHeld.{none_is_behind}
 use Rattle.net_record.proofs.none_is_behind.Goals as goal
 
 pub returns : goal.returns
