@@ -114,3 +114,8 @@ unfolding settle
 stores_settled moment asked w number =
     let g = giving_of w.actors asked in
     each_settled (greatest_clock w.actors + 1) (journal_lengths g.actors) g.actors number ∙ gave_all (record { actors = w.actors; answers = [] }) asked number
+
+-- and none of the turns
+pub turns_settled : (moment : ℕ) (asked : List ℕ) (w : WorldState) → (settle moment asked w).turns ≡ w.turns
+unfolding settle
+turns_settled moment asked w = refl

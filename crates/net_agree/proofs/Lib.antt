@@ -5,7 +5,6 @@ pub mod RoutedIssues
 pub mod RoutedActors
 pub mod Routed
 pub mod CountedStores
-pub mod Counted
 pub mod TimedTicks
 pub mod TimedOutputs
 pub mod TimedWires
@@ -15,6 +14,7 @@ pub mod Timed
 -- stores that a link joins are paired, and agree
 pub mod LiftedLists
 pub mod LiftedSends
+pub mod Counted
 pub mod LiftedRoles
 pub mod LiftedWay
 pub mod LiftedIssues
@@ -22,9 +22,7 @@ pub mod LiftedTaken
 pub mod LiftedTurn
 pub mod Lifted
 pub mod Settled
--- what records of round robin tell
-pub mod RecordedTold
+-- what records of runs tell
 pub mod RecordedPlaces
-pub mod RecordedWorlds
 pub mod Recorded
 pub mod Every

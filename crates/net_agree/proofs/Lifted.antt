@@ -35,7 +35,7 @@ use Rattle.net_record.specs.Roles.{roles}
 use Rattle.net_record.specs.Wires.{wires}
 use Rattle.net_record.specs.Phases.{phases}
 use Rattle.net_record.specs.Answers.{Giving, desks_asked, give, give_all, giving_of}
-use Rattle.net_record.specs.Actors.{new_part, new_actor, no_actor, actor_at, store_of, made_by, part_after_settle, actor_after_settle, journal_lengths, part_without_question, actor_without_question}
+use Rattle.net_record.specs.Actors.{new_actor, no_actor, actor_at, store_of, made_by, part_after_settle, actor_after_settle, journal_lengths, part_without_question, actor_without_question}
 use Rattle.net_record.specs.World.{WorldState, start, waiting, turn, turn_of, turn_by, reader_of, issue, settle, driver_clock, greatest_clock}
 use Rattle.net_record.specs.Run.{begin}
 use Rattle.net_record.specs.Reached.{IsReached, starts, turns, settles}
@@ -43,6 +43,7 @@ use Rattle.net_agree.specs.Routed.{IsStoreAt, MayWaitFor, IsRouted, RunsAreRoute
 use Rattle.net_agree.specs.Timed.{IsFrom, IsTimed, RunsAreTimed}
 use Rattle.net_agree.specs.Counted.{IsFewAfter, RunsAreCounted}
 use Rattle.net_agree.specs.Lifted.{messages_in, link_of, held_on, trace_at, on_way, IsLifted, RunsArePaired}
+use Rattle.net_agree.proofs.CountedStores.{store_there, starts_new, turns_settled}
 use Rattle.net_agree.proofs.LiftedLists.{some_is}
 use Rattle.net_agree.proofs.LiftedWay.{deliver_gives}
 use Rattle.net_agree.proofs.LiftedIssues.{BringNone, PhasesBringNone, lab_brings_none, none_among}
@@ -176,29 +177,12 @@ settle_no_more moment asked w =
       way = λ link node msg h. subst (λ held. Contains (flat_map (messages_in link node) w.lanes ++ held) msg) (held_same link node (settle moment asked w).actors w.actors same) h;
     }
 
-turns_settled : (moment : ℕ) (asked : List ℕ) (w : WorldState) → (settle moment asked w).turns ≡ w.turns
-unfolding settle
-turns_settled moment asked w = refl
-
 -- ---- the start
-
-new_is : (role : Role) (s : StoreState) → store_of (new_part role) ≡ Some s → s ≡ new_store Stores s.me
-new_is DriverRole s e = cc
-new_is (Node StoreRole node store) s e =
-    let same : new_store Stores node ≡ s = some_is e in
-    sym same ∙ ap (λ (u : StoreState). new_store Stores u.me) same
-new_is (Node DeskRole node store) s e = cc
-new_is (LinkRole link a b) s e = cc
-
-new_at : (all : List Role) (number : ℕ) (actor : ActorState) → slice_get (map new_actor all) number ≡ Some actor → (role : Role) × (actor ≡ new_actor role)
-new_at [] number actor there = cc
-new_at (role ∷ all) zero actor there = (role, sym (some_is there))
-new_at (role ∷ all) (suc number) actor there = new_at all number actor there
 
 store_new : (lab : Laboratory) (number : ℕ) (s : StoreState) → IsStoreAt (start lab) number s → s ≡ new_store Stores s.me
 store_new lab number s x =
-    let is = new_at (roles lab) number x.actor x.there in
-    new_is is.0 s (ap (λ (a : ActorState). store_of a.part) (sym is.1) ∙ x.is)
+    let new = starts_new (roles lab) number s (store_there (start lab) number s x) in
+    new.1 ∙ ap (λ (t : StoreState). new_store Stores t.me) (sym new.1)
 
 none_either : (test other : Bool) (msg : Msg) → Contains ((if test then [] else []) ++ (if other then [] else [])) msg → ⊥
 none_either true true msg h = omega (arith, h.1)

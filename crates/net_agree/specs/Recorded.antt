@@ -12,8 +12,7 @@ use Rattle.net_record.specs.Roles.{roles, modules_of, store_number}
 use Rattle.net_record.specs.Wires.{wires}
 use Rattle.net_record.specs.Answered.{no_mark, node_names}
 use Rattle.net_record.specs.Syncs.{syncs_told}
-use Rattle.net_record.specs.Records.{record_of}
-use Rattle.net_record.specs.Rounds.{round_robin}
+use Rattle.net_record.specs.Reached.{IsOfARun}
 use Rattle.net_agree.specs.Lifted.{items_taken}
 
 -- The store of the node in this place as a settle tells of it, behind the settles before: the first entries of its journal, as many as the settle
@@ -38,6 +37,6 @@ pub record RecordAgrees (lab : Laboratory) (done : Record) : Type 0 where
   pub quiet : (before later : List SettleDone) (settle : SettleDone) → done.settles ≡ before ++ settle ∷ later → QuietlyAgree (stores_recorded lab done before settle)
   pub one_round : (before later : List SettleDone) (settle : SettleDone) → done.settles ≡ before ++ settle ∷ later → AgreeAfterOneRound (stores_recorded lab done before settle)
 
--- So it is of every run by round robin, whether it settled every phase or not.
-abbrev pub RoundsAgree : Type 0
-RoundsAgree = (lab : Laboratory) → IsTrue (is_sound lab) → RecordAgrees lab (record_of (round_robin lab).last.world (round_robin lab).last.marks)
+-- So it is of every record of every run.
+abbrev pub RecordsAgree : Type 0
+RecordsAgree = (lab : Laboratory) (done : Record) → IsTrue (is_sound lab) → IsOfARun lab done → RecordAgrees lab done

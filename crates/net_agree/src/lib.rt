@@ -4,15 +4,15 @@
 //! every item waits for an actor that may take it, and stores know who their peers are (`runs_are_routed`); ticks never
 //! go back (`runs_are_timed`); and numbers of sessions stay small (`runs_are_counted`). So every two stores that a link
 //! joins are paired, with all that is on its way between them (`runs_are_paired`, `specs/Lifted.antt`), and at each settle
-//! the stores of a joined part agree (`runs_agree`, `specs/Settled.antt`). Of a run by round robin the record alone tells
-//! which these are (`rounds_agree`, `specs/Recorded.antt`).
+//! the stores of a joined part agree (`runs_agree`, `specs/Settled.antt`). The record of a run alone tells which these are
+//! (`records_agree`, `specs/Recorded.antt`).
 //!
 //! The crate has laws only, and no code.
 #![tactic(auto)]
 
 ghost use Rattle.net_agree.specs.Counted.{RunsAreCounted};
 ghost use Rattle.net_agree.specs.Lifted.{RunsArePaired};
-ghost use Rattle.net_agree.specs.Recorded.{RoundsAgree};
+ghost use Rattle.net_agree.specs.Recorded.{RecordsAgree};
 ghost use Rattle.net_agree.specs.Routed.{RunsAreRouted};
 ghost use Rattle.net_agree.specs.Settled.{RunsAgree};
 ghost use Rattle.net_agree.specs.Timed.{RunsAreTimed};
@@ -44,8 +44,8 @@ pub fn runs_agree()
     ensures { RunsAgree }
 {}
 
-/// In every run by round robin, whether it settled every phase or not, the stores of each joined part agree at each settle
-/// of its record, and so do two stores after one round, unless two of their values collide in their hash.
-pub fn rounds_agree()
-    ensures { RoundsAgree }
+/// In every record of a run, whether it settled every phase or not, the stores of each joined part agree at each settle, and
+/// so do two stores after one round, unless two of their values collide in their hash.
+pub fn records_agree()
+    ensures { RecordsAgree }
 {}

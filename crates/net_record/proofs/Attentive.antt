@@ -27,10 +27,9 @@ use Rattle.net_record.specs.Desk.{DeskState, new_desk, key_asked, with_question,
 use Rattle.net_record.specs.Actors.{Range, no_actor, actor_at, new_part, new_actor, desk_of, entries_of, range_asked, range_for, part_step, actor_after, outputs_of, made_by}
 use Rattle.net_record.specs.Answers.{desks_asked}
 use Rattle.net_record.specs.World.{WorldState, start, waiting, turn, turn_of, turn_by, reader_of, range, range_by, issue, driver_clock, deliver}
-use Rattle.net_record.specs.Rounds.{longest}
 use Rattle.net_record.specs.Answered.{entries_told}
 use Rattle.net_record.proofs.KindsGrow.{part_longer}
-use Rattle.net_record.proofs.Found.{entries_at, FoundWithin, DesksFind, set_longer, there, range_holds}
+use Rattle.net_record.proofs.Found.{entries_at, set_longer, there}
 use Rattle.net_record.proofs.Drained.{none_wait}
 use Rattle.net_record.proofs.Standing.{node_and_store, is_driver, standings, no_standing, stay_of}
 use Rattle.net_record.proofs.Places.{how_many, stores_before, standings_at_start, standings-new, standing_here, desk_here}
@@ -210,18 +209,6 @@ unfolding turn range
 attend_turn lab marks asked w lane at within h =
     let reader = reader_of (slice_get w.wires lane) in
     attend_by lab marks asked w lane at reader (waiting w lane) (slice_get w.actors reader) h refl refl refl within
-
-found_if : (actors : List ActorState) (desk : Option DeskState) → ((d : DeskState) → desk ≡ Some d → d.last ≤ entries_at actors d.store) → FoundWithin actors desk
-found_if actors None each = tt
-found_if actors (Some d) each = each d refl
-
-attend_finds : (lab : Laboratory) (marks : List NodeMark) (asked : List ℕ) (w : WorldState) → Attends lab marks asked w → DesksFind w.actors
-attend_finds lab marks asked w h number =
-    found_if w.actors (desk_of (actor_at w.actors number).part) (λ d is. let a = h.desks number d is in omega (arith, a.last, a.most))
-
--- the length of a round is one of them
-pub longest_within : (lab : Laboratory) (marks : List NodeMark) (asked : List ℕ) (w : WorldState) (lane : ℕ) → Attends lab marks asked w → IsWithin (range w lane) (longest w lane)
-longest_within lab marks asked w lane h = (range_holds w lane (attend_finds lab marks asked w h), omega arith)
 
 -- ---- the start and issues
 

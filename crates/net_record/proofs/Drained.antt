@@ -51,11 +51,11 @@ pub settles-issue : (w : WorldState) (issues : List Output) → (issue w issues)
 unfolding issue
 settles-issue w issues = refl
 
-settles-settle : (moment : ℕ) (asked : List ℕ) (w : WorldState) → length (settle moment asked w).settles ≡ length w.settles + 1
+pub settles-settle : (moment : ℕ) (asked : List ℕ) (w : WorldState) → length (settle moment asked w).settles ≡ length w.settles + 1
 unfolding settle
 settles-settle moment asked w = length_push w.settles (settle_done moment (length w.turns) w.actors (giving_of w.actors asked).answers)
 
-drained-settle : (moment : ℕ) (asked : List ℕ) (w : WorldState) → is_drained (settle moment asked w) ≡ is_drained w
+pub drained-settle : (moment : ℕ) (asked : List ℕ) (w : WorldState) → is_drained (settle moment asked w) ≡ is_drained w
 unfolding settle
 drained-settle moment asked w = refl
 

@@ -29,8 +29,9 @@ use Rattle.net_record.specs.Given.Stage.{GoesOn, Exceeds}
 use Rattle.net_record.specs.Wired.{IsWired}
 use Rattle.net_record.proofs.Counted.{rounds_from}
 use Rattle.net_record.proofs.Turns.{wired_turn, turn_scheduled}
+use Rattle.net_record.proofs.RoundTurns.{Front}
 use Rattle.net_record.proofs.RoundRuns.{goes_on, wired_world_of, wired_issue, wired_settle, rounds_are_a_run}
-use Rattle.net_record.proofs.SyncsTold.{few_robin}
+use Rattle.net_record.proofs.FewTurns.{few_robin}
 
 -- ---- what was done only grows
 
@@ -128,7 +129,7 @@ longer w v d = omega (arith, ap length d.more_turns, length-append w.turns d.tur
 
 -- ---- lanes and their readers stay there
 
-wired_begin : (w : WorldState) (phases : List Phase) → IsWired w → IsWired (begin w phases)
+pub wired_begin : (w : WorldState) (phases : List Phase) → IsWired w → IsWired (begin w phases)
 wired_begin w [] wired = wired
 wired_begin w (phase ∷ phases) wired = wired_issue w phase.issues wired
 
@@ -149,16 +150,28 @@ some_wait : (empty within : Bool) → not empty && within ≡ true → empty ≡
 some_wait true within e = cc
 some_wait false within e = refl
 
+-- a legal turn has an item
+legal_front : (w : WorldState) (t : Turn) → is_legal w t ≡ true → Front w t.lane
+legal_front w t legal = by_items (waiting w t.lane) refl where
+  by_items : (items : List Stamped) → waiting w t.lane ≡ items → Front w t.lane
+  by_items [] e = absurd (false≢true (sym (some_wait (is_empty (waiting w t.lane)) (is_in_range (range w t.lane) t.at) legal) ∙ ap is_empty e))
+  by_items (s ∷ others) e = record { item = s; others = others; is = e }
+
+-- and is the next of the schedule
+pub legal_scheduled : (w : WorldState) (t : Turn) → IsWired w → is_legal w t ≡ true → schedule_of (turn w t.lane t.at).turns ≡ schedule_of w.turns ++ t ∷ []
+legal_scheduled w t wired legal = let f = legal_front w t legal in turn_scheduled w t.lane t.at f.item f.others wired f.is
+
 -- a legal turn is one turn more
 one_more : (w : WorldState) (t : Turn) → IsWired w → is_legal w t ≡ true → length (turn w t.lane t.at).turns ≡ length w.turns + 1
-one_more w t wired legal = by_items (waiting w t.lane) refl where
-  by_items : (items : List Stamped) → waiting w t.lane ≡ items → length (turn w t.lane t.at).turns ≡ length w.turns + 1
-  by_items [] e = absurd (false≢true (sym (some_wait (is_empty (waiting w t.lane)) (is_in_range (range w t.lane) t.at) legal) ∙ ap is_empty e))
-  by_items (s ∷ others) e =
-      let scheduled = ap length (turn_scheduled w t.lane t.at s others wired e) in
-      let added = length-append (schedule_of w.turns) (record { lane = t.lane; at = t.at } ∷ []) in
-      let each : TurnDone → Turn = λ d. record { lane = d.lane; at = d.at } in
-      omega (arith, scheduled, added, length-map (turn w t.lane t.at).turns each, length-map w.turns each)
+one_more w t wired legal =
+    let each : TurnDone → Turn = λ d. record { lane = d.lane; at = d.at } in
+    omega (
+      arith,
+      ap length (legal_scheduled w t wired legal),
+      length-append (schedule_of w.turns) (t ∷ []),
+      length-map (turn w t.lane t.at).turns each,
+      length-map w.turns each,
+    )
 
 -- ---- a run within the budget
 

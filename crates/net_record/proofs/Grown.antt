@@ -1,7 +1,6 @@
 -- Journals only grow in a run, so that what a settle tells of them stays true.
-use Rattle.std.proofs.Common.{◌≡◌, ℕ, zero, suc, ◌+◌, ◌<◌, List, [], ◌∷◌, ◌++◌, Bool, true, false, cond, ◌||◌, not, Option, Some, None, length, map, get_or, set, take, refl, sym, ap, ◌∙◌, subst, arith, append_assoc, take_at}
+use Rattle.std.proofs.Common.{◌≡◌, ℕ, zero, suc, ◌+◌, ◌<◌, List, [], ◌∷◌, ◌++◌, Option, Some, None, length, map, get_or, set, take, refl, sym, ap, ◌∙◌, subst, arith, take_at}
 use Rattle.std.specs.Prelude.{slice_get}
-use Rattle.std.proofs.lemmas.List.{append-nil}
 use Rattle.or_base.specs.declared.entry.JournalEntry.{JournalEntry}
 use Rattle.std.specs.Prelude.{option_map, option_to_list}
 use Rattle.std.specs.Option.{option_map_or}
@@ -14,22 +13,13 @@ use Rattle.kv_store.proofs.Growth.{front_same, front_then}
 use Rattle.net_record.specs.declared.part.Part.{Part}
 use Rattle.net_record.specs.declared.part.Part.TheVariants.{Driver, Desk, Module}
 use Rattle.net_record.specs.declared.actor.ActorState.{ActorState}
-use Rattle.net_record.specs.declared.phase.Phase.{Phase}
-use Rattle.net_record.specs.declared.record.SettleDone.{SettleDone}
-use Rattle.net_record.specs.Phases.{phases}
 use Rattle.net_record.specs.Actors.{no_actor, actor_at, store_of, part_step, made_by, actor_after, journal_lengths, part_after_settle, actor_after_settle, actors_after_settle, part_without_question, actor_without_question}
-use Rattle.net_record.specs.Answers.{Giving, desks_asked, give, give_all, giving_of}
-use Rattle.net_record.specs.World.{WorldState, start, waiting, turn, turn_of, turn_by, reader_of, is_drained, issue, settle, settle_done, greatest_clock, mark_of_store, marks_of}
-use Rattle.net_record.specs.Budget.{is_over}
+use Rattle.net_record.specs.Answers.{Giving, give, give_all, giving_of}
+use Rattle.net_record.specs.World.{WorldState, waiting, turn, turn_of, turn_by, reader_of, issue, settle, greatest_clock, mark_of_store, marks_of}
 use Rattle.net_record.specs.Records.{journal_of, journals_of}
-use Rattle.net_record.specs.Rounds.{Marked, longest, phase_of, settle_after, round_robin}
-use Rattle.net_record.proofs.Counted.{rounds_from}
-use Rattle.net_record.specs.Fronts.{settling_worlds, fronts, TellStores, SettlesTellStores}
+use Rattle.net_record.specs.Fronts.{fronts}
 use Rattle.net_record.proofs.KindsGrow.{Grows, part_grows}
 use Rattle.net_record.proofs.Found.{there}
-use Rattle.net_record.proofs.RoundRuns.{goes_on}
-use Rattle.net_record.proofs.Kept.{RunsKeep, keep_rounds_from}
-use Rattle.net_record.proofs.Drained.{settles-rounds_of, settles-issue}
 
 -- ---- lists of journals
 
@@ -156,18 +146,6 @@ pub grow_issue : (w : WorldState) (issues : List Output) → Grow w (issue w iss
 unfolding issue
 grow_issue w issues = grow_same w
 
--- ---- a run
-
-runs_grow : (w : WorldState) → RunsKeep (Grow w)
-runs_grow w = record {
-  turns = λ v lane within f. grow_then w v (turn v lane (longest v lane)) f (grow_turn v lane (longest v lane));
-  issues = λ v issues f. grow_then w v (issue v issues) f (grow_issue v issues);
-  settles = λ moment asked v drained f. grow_then w v (settle moment asked v) f (grow_settle moment asked v);
-}
-
-grow_rounds_from : (number : ℕ) (m : Marked) (phases : List Phase) → Grow m.world (rounds_from number m phases).last.world
-grow_rounds_from number m phases = keep_rounds_from (Grow m.world) (runs_grow m.world) number m phases (grow_same m.world)
-
 -- ---- what settles tell
 
 abbrev pub Tell : List ActorState → Type 0
@@ -187,67 +165,3 @@ pub tell : (actors : List ActorState) → Tell actors
 tell [] [] f = refl
 tell [] (whole ∷ journals) f = absurd f
 tell (actor ∷ actors) journals f = tell_actor (store_of actor.part) actor.told actors (tell actors) journals f
-
--- the settles of phases, behind those before them, and what they tell
-record Told (before : List SettleDone) (after : List SettleDone) (worlds : List WorldState) (journals : List (List JournalEntry)) : Type 0 where
-  pub settles : List SettleDone
-  pub is : after ≡ before ++ settles
-  pub tell : TellStores worlds settles journals
-
-abbrev TellPhases : List Phase → Type 0
-TellPhases phases =
-    (number : ℕ) (m : Marked) (journals : List (List JournalEntry)) → AllFronts (journals_of (rounds_from number m phases).last.world.actors) journals
-    → Told m.world.settles (rounds_from number m phases).last.world.settles (settling_worlds m phases) journals
-
-settle_more : (moment : ℕ) (asked : List ℕ) (w : WorldState) → (s : SettleDone) × ((settle moment asked w).settles ≡ w.settles ++ s ∷ []) × (s.nodes ≡ marks_of w.actors)
-unfolding settle
-settle_more moment asked w =
-    let s = settle_done moment (length w.turns) w.actors (giving_of w.actors asked).answers in
-    (s, refl, refl)
-
-tell_goes_on : (unsettled over : Bool) (number : ℕ) (before : List SettleDone) (phase : Phase) (done : Marked) (phases : List Phase) (journals : List (List JournalEntry)) → done.world.settles ≡ before
-    → TellPhases phases → AllFronts (journals_of (goes_on unsettled over number done (settle_after phase done) phases).last.world.actors) journals
-    → Told before (goes_on unsettled over number done (settle_after phase done) phases).last.world.settles
-    (cond unsettled [] (done.world ∷ cond over [] (settling_worlds (settle_after phase done) phases))) journals
-tell_goes_on true over number before phase done phases journals same others f =
-    record { settles = []; is = same ∙ sym (append-nil before); tell = tt }
-tell_goes_on false true number before phase done phases journals same others f =
-    let next = settle_after phase done in
-    let more = settle_more phase.moment (desks_asked phase.issues) done.world in
-    let here = fronts_then (journals_of done.world.actors) (journals_of next.world.actors) journals (grow_settle phase.moment (desks_asked phase.issues) done.world) f in
-    record {
-      settles = more.0 ∷ [];
-      is = more.1 ∙ ap (λ ss. ss ++ more.0 ∷ []) same;
-      tell = (rw more.2 (tell done.world.actors journals here), tt);
-    }
-tell_goes_on false false number before phase done phases journals same others f =
-    let next = settle_after phase done in
-    let last = (rounds_from (number + 1) next phases).last.world in
-    let more = settle_more phase.moment (desks_asked phase.issues) done.world in
-    let rest = others (number + 1) next journals f in
-    let later = fronts_then (journals_of next.world.actors) (journals_of last.actors) journals (grow_rounds_from (number + 1) next phases) f in
-    let here = fronts_then (journals_of done.world.actors) (journals_of next.world.actors) journals (grow_settle phase.moment (desks_asked phase.issues) done.world) later in
-    record {
-      settles = more.0 ∷ rest.settles;
-      is =
-          rest.is ∙ ap (λ ss. ss ++ rest.settles) (more.1 ∙ ap (λ ss. ss ++ more.0 ∷ []) same)
-          ∙ append_assoc before (more.0 ∷ []) rest.settles;
-      tell = (rw more.2 (tell done.world.actors journals here), rest.tell);
-    }
-
-tell_phases : (phases : List Phase) → TellPhases phases
-tell_phases [] number m journals f = record { settles = []; is = sym (append-nil m.world.settles); tell = tt }
-tell_phases (phase ∷ phases) number m journals f =
-    let done = phase_of m phase in
-    let next = settle_after phase done in
-    tell_goes_on (is_over done.world || not (is_drained done.world)) (is_over next.world) number m.world.settles phase done phases journals
-    (settles-rounds_of (record { world = issue m.world phase.issues; marks = m.marks }) phase.rounds ∙ settles-issue m.world phase.issues)
-    (tell_phases phases) f
-
-pub settles_tell_stores : SettlesTellStores
-unfolding round_robin
-settles_tell_stores lab =
-    let m : Marked = record { world = start lab; marks = [] } in
-    let last = (rounds_from 1 m (phases lab)).last.world in
-    let told = tell_phases (phases lab) 1 m (journals_of last.actors) (fronts_same (journals_of last.actors)) in
-    subst (λ ss. TellStores (settling_worlds m (phases lab)) ss (journals_of last.actors)) (sym told.is) told.tell

@@ -58,7 +58,7 @@ module _ (P : WorldState → Type 0) (keep : TurnsKeep P) where
 -- ---- a run
 
 module _ (P : WorldState → Type 0) (keep : RunsKeep P) where
-  pub keep_phase_of : (m : Marked) (phase : Phase) → P m.world → P (phase_of m phase).world
+  keep_phase_of : (m : Marked) (phase : Phase) → P m.world → P (phase_of m phase).world
   keep_phase_of m phase h =
       keep_rounds_of P keep.turns (record { world = issue m.world phase.issues; marks = m.marks }) phase.rounds (keep.issues m.world phase.issues h)
 
@@ -71,7 +71,7 @@ module _ (P : WorldState → Type 0) (keep : RunsKeep P) where
   keep_goes_on false false number phase done phases e h others =
       others (keep.settles phase.moment (desks_asked phase.issues) done.world (drained-or (is_over done.world) (is_drained done.world) e) h)
 
-  pub keep_rounds_from : (number : ℕ) (m : Marked) (phases : List Phase) → P m.world → P (rounds_from number m phases).last.world
+  keep_rounds_from : (number : ℕ) (m : Marked) (phases : List Phase) → P m.world → P (rounds_from number m phases).last.world
   keep_rounds_from number m [] h = h
   keep_rounds_from number m (phase ∷ phases) h =
       let done = phase_of m phase in

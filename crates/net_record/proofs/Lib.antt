@@ -22,7 +22,11 @@ pub mod Attentive
 pub mod Held
 pub mod RunsHeld
 pub mod Tellers
+pub mod FewTurns
 pub mod SyncsTold
 pub mod GivenRounds
+pub mod GivenKept
+pub mod GivenEnds
+pub mod RunsReached
 pub mod RunsTell
 pub mod Examples

@@ -28,7 +28,7 @@ use Rattle.net_record.specs.Actors.{no_actor, actor_at, desk_of, store_of, entri
 use Rattle.net_record.specs.World.{marks_of}
 use Rattle.net_record.specs.Records.{journals_of}
 use Rattle.net_record.specs.Answered.{no_mark, entries_told, node_names}
-use Rattle.net_record.proofs.Standing.{Standing, node_and_store, is_driver, standing_of, standings, no_standing}
+use Rattle.net_record.proofs.Standing.{Standing, node_and_store, standing_of, standings, no_standing}
 
 -- ---- the place of a store
 
@@ -312,7 +312,3 @@ desk_here actors all number d stand e =
 pub store_here : (actors : List ActorState) (all : List Standing) (number : ℕ) → standings actors ≡ all → (get_or all number no_standing).store ≡ true
     → (standing_of (actor_at actors number).part).store ≡ true
 store_here actors all number stand is = ap (λ (s : Standing). s.store) (sym (standing_here actors all number stand)) ∙ is
-
-pub driver_here : (actors : List ActorState) (all : List Standing) (number : ℕ) → standings actors ≡ all → (get_or all number no_standing).driver ≡ true
-    → is_driver (actor_at actors number).part ≡ true
-driver_here actors all number stand is = ap (λ (s : Standing). s.driver) (sym (standing_here actors all number stand)) ∙ is

@@ -59,13 +59,13 @@ wired_settle moment asked w wired =
       ends = ends_as_many (length w.actors) (length (actors_after_settle clock (giving_of w.actors asked).actors)) w.wires (sym (length-settled clock asked w.actors)) wired.ends;
     }
 
-ready_world_of : (all : List Role) → IsReady (world_of all)
+pub ready_world_of : (all : List Role) → IsReady (world_of all)
 ready_world_of all = record { wired = wired_world_of all; find = find_start all }
 
-ready_issue : (w : WorldState) (issues : List Output) → IsReady w → IsReady (issue w issues)
+pub ready_issue : (w : WorldState) (issues : List Output) → IsReady w → IsReady (issue w issues)
 ready_issue w issues ready = record { wired = wired_issue w issues ready.wired; find = find_issue w issues ready.find }
 
-ready_settle : (moment : ℕ) (asked : List ℕ) (w : WorldState) → IsReady w → IsReady (settle moment asked w)
+pub ready_settle : (moment : ℕ) (asked : List ℕ) (w : WorldState) → IsReady w → IsReady (settle moment asked w)
 ready_settle moment asked w ready = record { wired = wired_settle moment asked w ready.wired; find = find_settle moment asked w }
 
 -- no round is wanted any more
@@ -177,7 +177,7 @@ turns-issue : (w : WorldState) (issues : List Output) → (issue w issues).turns
 unfolding issue
 turns-issue w issues = refl
 
-turns-settle : (moment : ℕ) (asked : List ℕ) (w : WorldState) → (settle moment asked w).turns ≡ w.turns
+pub turns-settle : (moment : ℕ) (asked : List ℕ) (w : WorldState) → (settle moment asked w).turns ≡ w.turns
 unfolding settle
 turns-settle moment asked w = refl
 

@@ -27,7 +27,7 @@ pub record IsReady (w : WorldState) : Type 0 where
   pub wired : IsWired w
   pub find : DesksFind w.actors
 
-ready_turn : (w : WorldState) (lane : ℕ) → IsReady w → IsReady (robin w lane)
+pub ready_turn : (w : WorldState) (lane : ℕ) → IsReady w → IsReady (robin w lane)
 ready_turn w lane ready = record {
   wired = wired_turn w lane (longest w lane) ready.wired;
   find = find_turn w lane (longest w lane) ready.find (omega arith);
@@ -133,7 +133,7 @@ front_of (s ∷ others) h = (s, others, refl)
 pub front : (w : WorldState) (lane : ℕ) → 0 < length (waiting w lane) → Front w lane
 front w lane h = let f = front_of (waiting w lane) h in record { item = f.0; others = f.1; is = f.2 }
 
-legal : (w : WorldState) (lane : ℕ) → IsReady w → Front w lane → is_legal w (turn_on w lane) ≡ true
+pub legal : (w : WorldState) (lane : ℕ) → IsReady w → Front w lane → is_legal w (turn_on w lane) ≡ true
 legal w lane ready f =
     rw (f.is, le-leb (range w lane).least (longest w lane) (range_holds w lane ready.find), le-leb (longest w lane) (longest w lane) (omega arith)) refl
 

@@ -1,27 +1,20 @@
 -- The answers that the settles of a run tell are what journals hold, and no desk was behind. It holds of any turns that find what
 -- they may, so by round robin and under any legal schedule.
-use Rattle.std.proofs.Common.{◌≡◌, ℕ, ◌+◌, List, [], ◌∷◌, ◌++◌, Bool, true, false, ◌||◌, not, refl, sym, ap, ◌∙◌, subst}
+use Rattle.std.proofs.Common.{◌≡◌, ℕ, List, [], ◌∷◌, ◌++◌, true, false, refl, sym, ap, ◌∙◌, subst}
 use Rattle.std.specs.Prelude.{All}
 use Rattle.std.proofs.lemmas.List.Elements.{All-append, All-nil, All-cons}
 use Rattle.or_base.specs.declared.entry.JournalEntry.{JournalEntry}
 use Rattle.or_actor.specs.declared.output.Output.{Output}
 use Rattle.net_laboratory.specs.Scenario.{Laboratory}
-use Rattle.net_record.specs.declared.phase.Phase.{Phase}
 use Rattle.net_record.specs.declared.record.NodeMark.{NodeMark}
 use Rattle.net_record.specs.declared.record.SettleDone.{SettleDone}
-use Rattle.net_record.specs.Phases.{phases}
 use Rattle.net_record.specs.Answers.{desks_asked}
 use Rattle.net_record.specs.World.{WorldState, start, turn, range, is_drained, issue, settle}
-use Rattle.net_record.specs.Budget.{is_over}
 use Rattle.net_record.specs.Records.{journals_of}
-use Rattle.net_record.specs.Rounds.{Marked, longest, phase_of, settle_after, round_robin}
-use Rattle.net_record.specs.Answered.{IsAnswered, AreAnsweredAfter, AreAnswered, node_names, AnswersAreHeld, is_behind, AreCurrent, NoneBehind}
-use Rattle.net_record.proofs.Counted.{rounds_from}
-use Rattle.net_record.proofs.RoundRuns.{goes_on, drained-or}
-use Rattle.net_record.proofs.Kept.{TurnsKeep, keep_rounds_of}
+use Rattle.net_record.specs.Answered.{IsAnswered, AreAnsweredAfter, AreAnswered, node_names, is_behind, AreCurrent}
 use Rattle.net_record.proofs.Drained.{settles-turn, settles-issue}
 use Rattle.net_record.proofs.Grown.{AllFronts, fronts_same, fronts_then, grow_turn, grow_settle, grow_issue}
-use Rattle.net_record.proofs.Attentive.{IsWithin, Attends, attend_turn, attend_issue, attend_start, longest_within}
+use Rattle.net_record.proofs.Attentive.{IsWithin, Attends, attend_turn, attend_issue, attend_start}
 use Rattle.net_record.proofs.Held.{settle_answers}
 
 -- what the last of these settles told, which come behind one with these marks
@@ -105,42 +98,3 @@ hold_settle lab moment asked w drained h =
             (All-cons NotBehind now.settle [] (λ k d within. (now.answers k d within).1) (All-nil NotBehind)));
       };
     }
-
--- ---- a run by round robin
-
-turns_hold : (lab : Laboratory) (asked : List ℕ) → TurnsKeep (Holds lab asked)
-turns_hold lab asked w lane within h =
-    hold_turn lab asked w lane (longest w lane) (longest_within lab (last_marks [] w.settles) asked w lane h.attends) h
-
-abbrev HoldPhases : Laboratory → List Phase → Type 0
-HoldPhases lab phases = (number : ℕ) (m : Marked) → Holds lab [] m.world → AreHeld lab (rounds_from number m phases).last.world
-
-hold_goes_on : (lab : Laboratory) (unsettled over : Bool) (number : ℕ) (phase : Phase) (done : Marked) (later : List Phase) → is_over done.world || not (is_drained done.world) ≡ unsettled
-    → Holds lab (desks_asked phase.issues) done.world → HoldPhases lab later → AreHeld lab (goes_on unsettled over number done (settle_after phase done) later).last.world
-hold_goes_on lab true over number phase done later e h others = h.held
-hold_goes_on lab false true number phase done later e h others =
-    (hold_settle lab phase.moment (desks_asked phase.issues) done.world (drained-or (is_over done.world) (is_drained done.world) e) h).held
-hold_goes_on lab false false number phase done later e h others =
-    others (number + 1) (settle_after phase done)
-    (hold_settle lab phase.moment (desks_asked phase.issues) done.world (drained-or (is_over done.world) (is_drained done.world) e) h)
-
-hold_phases : (lab : Laboratory) (phases : List Phase) → HoldPhases lab phases
-hold_phases lab [] number m h = h.held
-hold_phases lab (phase ∷ later) number m h =
-    let begun : Marked = record { world = issue m.world phase.issues; marks = m.marks } in
-    let done = phase_of m phase in
-    let asked = desks_asked phase.issues in
-    hold_goes_on lab (is_over done.world || not (is_drained done.world)) (is_over (settle_after phase done).world) number phase done later refl
-    (keep_rounds_of (Holds lab asked) (turns_hold lab asked) begun phase.rounds (hold_issue lab m.world phase.issues h)) (hold_phases lab later)
-
-rounds_held : (lab : Laboratory) → AreHeld lab (round_robin lab).last.world
-unfolding round_robin
-rounds_held lab = hold_phases lab (phases lab) 1 (record { world = start lab; marks = [] }) (hold_start lab)
-
-pub answers_are_held : AnswersAreHeld
-answers_are_held lab =
-    let journals = journals_of (round_robin lab).last.world.actors in
-    (rounds_held lab).answered journals (fronts_same journals)
-
-pub none_is_behind : NoneBehind
-none_is_behind lab = (rounds_held lab).current

@@ -12,8 +12,8 @@ use Rattle.net_record.specs.declared.part.Part.TheVariants.{Driver, Desk, Module
 use Rattle.net_record.specs.declared.actor.ActorState.{ActorState}
 use Rattle.net_record.specs.Kinds.{module_step, store_in}
 use Rattle.net_record.specs.Desk.{DeskState, key_asked, with_question, desk_after}
-use Rattle.net_record.specs.Actors.{no_actor, desk_of, store_of, part_step, actor_after, made_by, part_after_settle, actor_after_settle, part_without_question}
-use Rattle.net_record.specs.World.{WorldState, waiting, turn, turn_of, turn_by, reader_of}
+use Rattle.net_record.specs.Actors.{no_actor, desk_of, store_of, part_step, actor_after, part_after_settle, actor_after_settle, part_without_question}
+use Rattle.net_record.specs.World.{WorldState, turn_of}
 use Rattle.net_record.proofs.KindsGrow.{Grows, part_grows}
 use Rattle.net_record.proofs.Found.{there}
 
@@ -76,18 +76,6 @@ pub stay_of : (w : WorldState) (reader : ℕ) (others : List Stamped) (actor : A
     → standings (turn_of w reader others actor m).actors ≡ standings w.actors
 unfolding turn_of
 stay_of w reader others actor m e = stay_actor w.actors reader actor m e
-
-stay_by : (w : WorldState) (lane at reader : ℕ) (items : List Stamped) (actor : Option ActorState) → slice_get w.actors reader ≡ actor
-    → standings (turn_by w lane at reader items actor).actors ≡ standings w.actors
-stay_by w lane at reader [] actor e = refl
-stay_by w lane at reader (s ∷ others) None e = refl
-stay_by w lane at reader (s ∷ others) (Some actor) e = stay_of w reader others actor (made_by w.actors actor lane at s) e
-
-pub stay_turn : (w : WorldState) (lane at : ℕ) → standings (turn w lane at).actors ≡ standings w.actors
-unfolding turn
-stay_turn w lane at =
-    let reader = reader_of (slice_get w.wires lane) in
-    stay_by w lane at reader (waiting w lane) (slice_get w.actors reader) refl
 
 -- ---- a settle
 

@@ -1,8 +1,7 @@
 -- What settles tell of the full syncs that a store finished is the front of them all, which have numbers of their own.
-use Rattle.std.proofs.Common.{◌≡◌, ℕ, zero, suc, ◌+◌, ◌<◌, ◌≤◌, List, [], ◌∷◌, ◌++◌, Option, Some, None, Bool, true, false, ◌||◌, not, length, map, drop, get_or, set, refl, sym, ap, ◌∙◌, subst, arith, append_assoc, length-append}
-use Rattle.std.specs.Prelude.{◌&&◌, AllPairs, slice_get}
+use Rattle.std.proofs.Common.{◌≡◌, ℕ, zero, suc, ◌+◌, ◌≤◌, List, [], ◌∷◌, ◌++◌, Option, Some, None, length, map, drop, get_or, set, refl, sym, ap, ◌∙◌, subst, arith, append_assoc, length-append}
+use Rattle.std.specs.Prelude.{AllPairs, slice_get}
 use Rattle.std.specs.List.{AllZip}
-use Rattle.std.proofs.lemmas.Bool.{leb-false}
 use Rattle.std.proofs.lemmas.Nat.{mul-le}
 use Rattle.std.proofs.lemmas.Grind.{flat_map-append}
 use Rattle.std.proofs.lemmas.List.{append-nil, length_push, get_or_append_left}
@@ -33,14 +32,11 @@ use Rattle.net_record.specs.Kinds.{module_step, store_in}
 use Rattle.net_record.specs.Actors.{new_part, new_actor, store_of, part_step, made_by, actor_after, journal_lengths, actors_after_settle}
 use Rattle.net_record.specs.Answers.{giving_of}
 use Rattle.net_record.specs.Answered.{no_mark}
-use Rattle.net_record.specs.World.{WorldState, start, waiting, turn, turn_of, turn_by, reader_of, is_drained, issue, settle, settle_done, greatest_clock}
-use Rattle.net_record.specs.Budget.{is_too_heavy, has_spent_turns, is_over}
-use Rattle.net_record.specs.Rounds.{longest, round_robin}
+use Rattle.net_record.specs.World.{WorldState, start, waiting, turn, turn_of, turn_by, reader_of, issue, settle, settle_done, greatest_clock}
 use Rattle.net_record.specs.Run.{begin}
-use Rattle.net_record.specs.Syncs.{syncs_told, SyncsDiffer}
+use Rattle.net_record.specs.Syncs.{syncs_told}
 use Rattle.net_record.proofs.Found.{there}
-use Rattle.net_record.proofs.RoundTurns.{not_drained}
-use Rattle.net_record.proofs.Kept.{keep_round_robin}
+use Rattle.net_record.proofs.FewTurns.{HasFewTurns}
 use Rattle.net_record.proofs.Tellers.{Teller, tellers_by, tellers_of, teller_in, teller_at, syncs_of_mark, told_all, settled_teller, tellers_give_all, set_teller}
 
 -- What is kept of a store after so many turns, of whose full syncs settles told these: its numbers are apart, and these
@@ -115,49 +111,6 @@ told_turn w lane at h =
     let reader = reader_of (slice_get w.wires lane) in
     told_by w lane at reader (waiting w lane) (slice_get w.actors reader) refl h
 
--- ---- how many turns
-
--- no more turns than the budget allows
-abbrev pub HasFewTurns : WorldState → Type 0
-HasFewTurns w = length w.turns ≤ most_turns
-
-few_after : (w : WorldState) (reader : ℕ) (others : List Stamped) (actor : ActorState) (m : TurnMade) → length w.turns < most_turns → HasFewTurns (turn_of w reader others actor m)
-unfolding turn_of
-few_after w reader others actor m more = omega (arith, length_push w.turns (turn_done m), more)
-
-may_turn : (heavy spent drained : Bool) → (heavy || (spent && not drained)) ≡ false → drained ≡ false → spent ≡ false
-may_turn true spent drained over waits = cc
-may_turn false true true over waits = cc
-may_turn false true false over waits = cc
-may_turn false false drained over waits = refl
-
-less_turns : (w : WorldState) → is_over w ≡ false → is_drained w ≡ false → length w.turns < most_turns
-unfolding is_over
-less_turns w over waits =
-    leb-false most_turns (length w.turns) (may_turn (is_too_heavy w.turns w.settles) (has_spent_turns w.turns) (is_drained w) over waits)
-
-few_by : (w : WorldState) (lane at reader : ℕ) (items : List Stamped) (actor : Option ActorState) → waiting w lane ≡ items → is_over w ≡ false
-    → HasFewTurns w → HasFewTurns (turn_by w lane at reader items actor)
-few_by w lane at reader [] actor waits over h = h
-few_by w lane at reader (s ∷ others) None waits over h = h
-few_by w lane at reader (s ∷ others) (Some actor) waits over h =
-    let one : 1 ≤ length (waiting w lane) = omega (arith, ap length waits) in
-    few_after w reader others actor (made_by w.actors actor lane at s) (less_turns w over (not_drained w lane (1 ∷ []) (one, tt) refl))
-
-few_turn : (w : WorldState) (lane at : ℕ) → is_over w ≡ false → HasFewTurns w → HasFewTurns (turn w lane at)
-unfolding turn
-few_turn w lane at over h =
-    let reader = reader_of (slice_get w.wires lane) in
-    few_by w lane at reader (waiting w lane) (slice_get w.actors reader) refl over h
-
-few_issue : (w : WorldState) (issues : List Output) → HasFewTurns w → HasFewTurns (issue w issues)
-unfolding issue
-few_issue w issues h = h
-
-few_settle : (moment : ℕ) (asked : List ℕ) (w : WorldState) → HasFewTurns w → HasFewTurns (settle moment asked w)
-unfolding settle
-few_settle moment asked w h = h
-
 -- ---- the start, issues and settles
 
 fresh : (me : List ℕ) → IsToldOf 0 [] (record { told = 0; store = new_store Stores me })
@@ -185,7 +138,7 @@ told_begin w [] h = h
 told_begin w (phase ∷ phases) h = told_issue w phase.issues h
 
 -- what one settle more tells
-syncs_more : (place : ℕ) (settles : List SettleDone) (s : SettleDone) → syncs_told place (settles ++ s ∷ []) ≡ syncs_told place settles ++ (get_or s.nodes place no_mark).syncs
+pub syncs_more : (place : ℕ) (settles : List SettleDone) (s : SettleDone) → syncs_told place (settles ++ s ∷ []) ≡ syncs_told place settles ++ (get_or s.nodes place no_mark).syncs
 syncs_more place settles s =
     flat_map-append (λ (settle : SettleDone). (get_or settle.nodes place no_mark).syncs) settles (s ∷ [])
     ∙ ap (λ syncs. syncs_told place settles ++ syncs) (append-nil (get_or s.nodes place no_mark).syncs)
@@ -221,22 +174,6 @@ told_settle moment asked w h place =
 pub told_start : (lab : Laboratory) → AreTold (start lab)
 told_start lab = told_roles (roles lab)
 
-told_robin : (lab : Laboratory) → AreTold (round_robin lab).last.world
-told_robin lab =
-    keep_round_robin AreTold (record {
-      turns = λ w lane over h. told_turn w lane (longest w lane) h;
-      issues = told_issue;
-      settles = λ moment asked w drained h. told_settle moment asked w h;
-    }) lab (told_start lab)
-
-pub few_robin : (lab : Laboratory) → HasFewTurns (round_robin lab).last.world
-few_robin lab =
-    keep_round_robin HasFewTurns (record {
-      turns = λ w lane over h. few_turn w lane (longest w lane) over h;
-      issues = few_issue;
-      settles = λ moment asked w drained h. few_settle moment asked w h;
-    }) lab (omega arith)
-
 -- a front has numbers of its own, where the whole has
 front_apart : (front rest : List SyncDone) → AllPairs HaveOwnNumbers (front ++ rest) → AllPairs HaveOwnNumbers front
 front_apart front rest apart i j d before within =
@@ -255,6 +192,3 @@ apart_where_few turns syncs t few h =
 -- the full syncs of one store that the settles of a world tell of, where few turns were done
 pub syncs_apart : (w : WorldState) → AreTold w → HasFewTurns w → (place : ℕ) → AllPairs HaveOwnNumbers (syncs_told place w.settles)
 syncs_apart w told few place = apart_where_few (length w.turns) (syncs_told place w.settles) (teller_at w.actors place) few (told place)
-
-pub syncs_differ : SyncsDiffer
-syncs_differ lab = syncs_apart (round_robin lab).last.world (told_robin lab) (few_robin lab)

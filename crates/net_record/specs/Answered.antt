@@ -11,8 +11,6 @@ use Rattle.net_record.specs.declared.record.AnswerDone.{AnswerDone}
 use Rattle.net_record.specs.declared.record.NodeMark.{NodeMark}
 use Rattle.net_record.specs.declared.record.SettleDone.{SettleDone}
 use Rattle.net_record.specs.Desk.{told_of}
-use Rattle.net_record.specs.Records.{journals_of}
-use Rattle.net_record.specs.Rounds.{round_robin}
 
 -- What the first `at` entries of a journal tell of a question: what they hold under its key, where they are at least so
 -- many. That the desk was behind is allowed here with any length. No desk is asked for a route yet.
@@ -51,12 +49,6 @@ AreAnswered names settles journals = AreAnsweredAfter names [] settles journals
 abbrev pub node_names : Laboratory → List (List ℕ)
 node_names lab = map (λ node. node.name) lab.nodes
 
--- In a run by round robin each answer that a settle tells is what the first entries of its node's journal tell, in the
--- record itself.
-abbrev pub AnswersAreHeld : Type 0
-AnswersAreHeld =
-    (lab : Laboratory) → AreAnswered (node_names lab) (round_robin lab).last.world.settles (journals_of (round_robin lab).last.world.actors)
-
 abbrev pub is_behind : Told → Bool
 is_behind (Behind at) = true
 is_behind (Value value) = false
@@ -66,7 +58,3 @@ is_behind Nothing = false
 -- no desk was behind
 abbrev pub AreCurrent : List SettleDone → Type 0
 AreCurrent settles = All (λ settle. All (λ answer. is_behind answer.told ≡ false) settle.answers) settles
-
--- in a run by round robin no desk is ever behind
-abbrev pub NoneBehind : Type 0
-NoneBehind = (lab : Laboratory) → AreCurrent (round_robin lab).last.world.settles

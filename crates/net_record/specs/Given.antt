@@ -9,7 +9,8 @@ use Rattle.net_record.specs.World.{WorldState, start, turn, is_drained, settle}
 use Rattle.net_record.specs.Budget.{is_too_heavy, has_spent_turns}
 use Rattle.net_record.specs.Run.{Progress, begin, is_legal, is_open, run, schedule_of}
 use Rattle.net_record.specs.Rounds.{round_robin}
-use Rattle.net_record.specs.Reached.{IsReached}
+use Rattle.net_record.specs.Records.{record_of}
+use Rattle.net_record.specs.Reached.{IsOfARun}
 
 -- why a run under given turns came to no settle of its last phase
 pub data GivenFault : Type 0 where
@@ -75,6 +76,13 @@ RoundsAreGiven =
     (lab : Laboratory) → (round_robin lab).unsettled ≡ None
     → run_given lab (schedule_of (round_robin lab).last.world.turns) ≡ record { fault = None; last = (round_robin lab).last.world }
 
--- A run under given turns comes to a world of a run.
+-- Where it settles every phase, the turns that it did are those that were given.
+abbrev pub GivenAreDone : Type 0
+GivenAreDone = (lab : Laboratory) (turns : List Turn) → (run_given lab turns).fault ≡ None → schedule_of (run_given lab turns).last.turns ≡ turns
+
+-- Round robin and a run under given turns are runs, as far as they come.
+abbrev pub RoundsAreReached : Type 0
+RoundsAreReached = (lab : Laboratory) → IsOfARun lab (record_of (round_robin lab).last.world (round_robin lab).last.marks)
+
 abbrev pub GivenIsReached : Type 0
-GivenIsReached = (lab : Laboratory) (turns : List Turn) → (later : List Phase) × IsReached lab (run_given lab turns).last later
+GivenIsReached = (lab : Laboratory) (turns : List Turn) → IsOfARun lab (record_of (run_given lab turns).last [])

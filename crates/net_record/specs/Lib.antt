@@ -10,9 +10,9 @@ pub mod Weight
 pub mod Budget
 pub mod Rounds
 pub mod Run
+pub mod Records
 pub mod Reached
 pub mod Given
-pub mod Records
 pub mod Small
 pub mod Wired
 pub mod Ends
@@ -21,4 +21,3 @@ pub mod Ports
 pub mod Answered
 pub mod Syncs
 pub mod Tells
-pub mod RunsTell

@@ -11,17 +11,14 @@
 //! `numbering` (what the actors are), `kinds` (the modules), `part` (what an actor is: the driver, a desk or a module),
 //! `actor`, `desk` (answers questions), `wire`, `wiring` and `ports` (the lanes, and which of them a sender's port names),
 //! `phase` and `phasing` (what each command sends), `answers` and `questions` (which desks a phase asks, and for what),
-//! `record` (what was done) and `stores` (what a record tells of the stores). `stamps`, `weight` and `budget` say when each
+//! `record` (what was done), `schedule` (which turns) and `stores` (what a record tells of the stores). `stamps`, `weight` and `budget` say when each
 //! entry was made and how much a run may do.
 #![tactic(auto)]
 
 ghost use Rattle.net_record.specs.Run.{RoundsAreARun};
-ghost use Rattle.net_record.specs.Given.{GivenIsARun, RoundsAreGiven};
-ghost use Rattle.net_record.specs.Ends.{SettledRoundsEndDrained};
-ghost use Rattle.net_record.specs.Fronts.{SettlesTellStores};
-ghost use Rattle.net_record.specs.Answered.{AnswersAreHeld, NoneBehind};
-ghost use Rattle.net_record.specs.Syncs.{SyncsDiffer};
-ghost use Rattle.net_record.specs.RunsTell.{RunsTell};
+ghost use Rattle.net_record.specs.Given.{GivenIsARun, RoundsAreGiven, GivenAreDone, RoundsAreReached, GivenIsReached};
+ghost use Rattle.net_record.specs.Ends.{SettledRoundsEndDrained, GivenEndsDrained};
+ghost use Rattle.net_record.specs.Tells.{RunsTell};
 
 mod actor;
 mod answers;
@@ -36,6 +33,7 @@ mod ports;
 mod questions;
 mod record;
 mod role;
+mod schedule;
 mod stamps;
 mod stores;
 mod weight;
@@ -55,6 +53,7 @@ pub use ports::{Port, Wiring};
 pub use questions::{answer_of, is_in_range, is_question, longest, made_for};
 pub use record::{AnswerDone, NodeMark, Record, SettleDone};
 pub use role::{NodeModule, Role};
+pub use schedule::schedule_of;
 pub use stamps::Stamps;
 pub use stores::{journals_of, marks_of};
 pub use weight::{
@@ -81,35 +80,35 @@ pub fn rounds_are_given()
     ensures { RoundsAreGiven }
 {}
 
+/// Where a run under given turns settles every phase, it did just these turns.
+pub fn given_are_done()
+    ensures { GivenAreDone }
+{}
+
 /// Where round robin settles every phase of a laboratory, no item waits at its end, and each phase has its settle.
 pub fn settled_rounds_end_drained()
     ensures { SettledRoundsEndDrained }
 {}
 
-/// In a run by round robin each settle tells of each store as many entries as its journal has then, and these are the first
-/// of the journal that the record has.
-pub fn settles_tell_stores()
-    ensures { SettlesTellStores }
+/// So it is where a run under given turns settles every phase.
+pub fn given_ends_drained()
+    ensures { GivenEndsDrained }
 {}
 
-/// In a run by round robin each answer is what the first entries of its node's journal hold in the record, no fewer of
-/// them than the settle before told of, and no more than its own settle tells of.
-pub fn answers_are_held()
-    ensures { AnswersAreHeld }
+/// Round robin comes to a record of a run, whether it settles every phase or not.
+pub fn rounds_are_reached()
+    ensures { RoundsAreReached }
 {}
 
-/// In a run by round robin no answer is that the desk was behind what it had seen.
-pub fn none_is_behind()
-    ensures { NoneBehind }
+/// So does a run under given turns.
+pub fn given_is_reached()
+    ensures { GivenIsReached }
 {}
 
-/// In a run by round robin no two full syncs that a node's store started, and that settles tell of as finished, have the same
-/// number.
-pub fn syncs_differ()
-    ensures { SyncsDiffer }
-{}
-
-/// What the settles of a run tell of stores, answers and finished full syncs is what was there, under any legal schedule.
+/// In every record of a run, under any legal schedule: each settle tells what was there, and the entries that it tells of are
+/// the first of the journals that the record has; each answer is what the first entries of its node's journal tell, no
+/// fewer of them than the settle before told of, and no desk was behind; and no two full syncs of one store that settles
+/// tell of as finished have the same number.
 pub fn runs_tell()
     ensures { RunsTell }
 {}
