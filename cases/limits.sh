@@ -119,12 +119,12 @@ gets() { echo "$lab"; echo "$node_a"; lines "$1" "$get"; }
 accept "10,000 lines" 0 "$settled" < <(gets 9998)
 refuse_input "10,001 lines, and a blank one that isn't counted" "10002 number 10 TooMany" \
     < <(echo "$lab"; echo "$node_a"; echo; lines 9999 "$get")
-accept "10,000 lines and a turn" 3 "$unbuilt" < <(gets 9998; echo "$turn")
+accept "10,000 lines and a turn" 8 "bad turn 0" < <(gets 9998; echo "$turn")
 
 # A laboratory and so many turns.
 turns() { echo "$lab"; lines "$1" "$turn"; }
 
-run_text "500,000 turns" 3 $'not built\n' replay < <(turns 500000)
+run_text "500,000 turns" 8 $'bad turn 0\n' replay < <(turns 500000)
 run_text "500,001 turns" 3 $'fault line 500002 number 10 TooMany\n' replay < <(turns 500001)
 
 # ---- how many bytes
@@ -166,6 +166,11 @@ ticks() {
 
 run_text "a run of 500,000 turns" 0 $'settle 1 moment 5676\nend\n' replay < <(ticks 56)
 run_text "a run of 500,001 turns" 4 $'unsettled in settle 1\n' replay < <(ticks 57)
+
+# The same turns, given: they are enough for the one, and one more is missing for the other.
+"$program" --trace replay < <(ticks 56) | grep '"turn"' > "$folder/turns"
+run_text "500,000 given turns" 0 $'settle 1 moment 5676\nend\n' replay < <(ticks 56; cat "$folder/turns")
+run_text "a turn is missing behind 500,000" 8 $'bad turn 500000\n' replay < <(ticks 57; cat "$folder/turns")
 
 # A set of a key of 128 bytes and a value of 4,096 weighs 4,416, and its flood 4,480 at each of 24 links and again behind
 # it: 219,456. A link that comes up weighs 64, and 96 at each end; of the two syncs that follow, each of the four messages

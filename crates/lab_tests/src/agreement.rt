@@ -9,7 +9,7 @@ use std::test::Fail;
 
 /// Two linked stores. The link drops the flood of a's set; a full sync brings the value to b, and another finds both as they
 /// are.
-const TWO_SYNCS: &str = r#"{"do":"lab","kind":"stores"}
+pub const TWO_SYNCS: &str = r#"{"do":"lab","kind":"stores"}
 {"do":"node","name":"a"}
 {"do":"node","name":"b"}
 {"do":"link","a":"a","b":"b"}
@@ -50,7 +50,7 @@ const RESTARTED: &str = r#"{"do":"lab","kind":"stores"}
 "#;
 
 /// The record of a run that settles every phase.
-fn record_of(alloc: Global, scenario: &str) -> Result<Record, NoMemory> {
+pub fn record_of(alloc: Global, scenario: &str) -> Result<Record, NoMemory> {
     match read_scenario(alloc, scenario.as_bytes(), true) {
         Ok(scenario) => match round_robin(alloc, &scenario) {
             Ok(done) => Ok(done),

@@ -17,6 +17,8 @@ mod prefixes;
 #[cfg(test)]
 mod records;
 #[cfg(test)]
+mod replays;
+#[cfg(test)]
 mod tables;
 #[cfg(test)]
 mod timers;

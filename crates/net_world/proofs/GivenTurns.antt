@@ -152,8 +152,7 @@ replay_settled p end done e is = record { settled = ap (λ (g : GivenEnded). g.f
 pub replay_bad : (p : Progress) (end : GivenEnded) (index : ℕ) → ended (Some (Bad index)) p ≡ end → end.fault ≡ Some (BadTurn index)
 replay_bad p end index e = ap (λ (g : GivenEnded). g.fault) (sym e)
 
-pub replay_over : (p : Progress) (end : GivenEnded) (phase : ℕ) (done : Record) → ended (Some (Over phase)) p ≡ end → done ≡ record_of p.world []
-    → (end.fault ≡ Some (OverBudget phase)) × (done ≡ record_of end.last [])
-replay_over p end phase done e is = (ap (λ (g : GivenEnded). g.fault) (sym e), is ∙ ap (λ (g : GivenEnded). record_of g.last []) e)
+pub replay_over : (p : Progress) (end : GivenEnded) (phase : ℕ) → ended (Some (Over phase)) p ≡ end → end.fault ≡ Some (OverBudget phase)
+replay_over p end phase e = ap (λ (g : GivenEnded). g.fault) (sym e)
 
 pub ruleset replayed = (replay_settled, replay_bad, replay_over)

@@ -24,13 +24,12 @@ impl From<NoMemory> for RunFault {
 }
 
 /// Why a run under given turns came to no record of all its settles.
-#[derive(Drop)]
+#[derive(Clone, Copy, Debug, PartialEq, Eq)]
 pub enum ReplayFault {
     /// The turn with this index (from 0) isn't legal, comes after the last settle, or is missing before it.
     BadTurn { index: u64 },
-    /// The budget is exceeded in the phase that settle number `settle` (from 1) ends, or by that settle. The record is
-    /// that of the run so far.
-    Unsettled { settle: u64, done: Record },
+    /// The budget is exceeded in the phase that settle number `settle` (from 1) ends, or by that settle.
+    Unsettled { settle: u64 },
     /// Memory ran out.
     NoMemory,
 }

@@ -2,13 +2,22 @@ ghost use Rattle.std.specs.Prelude.{◌≡◌, ◌-◌, ◌<◌, ◌^◌, ◌&&�
 ghost use Rattle.std.specs.Bool.{OnTrue};
 ghost use Rattle.net_laboratory.specs.declared.schedule.Turn.{Turn};
 ghost use Rattle.net_record.specs.Given.{run_given};
-ghost use Rattle.net_record.specs.Records.{record_of};
-ghost use Rattle.net_world.specs.Given.{IsGivenRecord, IsGivenFault};
+ghost use Rattle.net_record.specs.Ends.{EndsDrained};
+ghost use Rattle.net_record.specs.Records.{record_of, IsRecordOf};
+ghost use Rattle.net_record.specs.Run.{run, schedule_of};
+ghost use Rattle.net_record.specs.Tells.{RecordTells};
+ghost use Rattle.net_agree.specs.Recorded.{RecordAgrees};
+ghost use Rattle.net_world.specs.Given.{IsGivenRecord, IsGivenFault, NamesBadTurn};
 
 use crate::fault::ReplayFault;
+use crate::scenario::scenario_is_sound;
 use crate::world::World;
+use net_agree::records_agree;
 use net_laboratory::{Scenario, Schedule, Turn};
-use net_record::{Phase, Record, desks_asked, phases};
+use net_record::{
+    Phase, Record, desks_asked, given_are_done, given_ends_drained, given_is_a_run,
+    given_is_reached, phases, runs_tell,
+};
 use or_base::NoMemory;
 use std::alloc::Global;
 use std::collections::VecDeque;
@@ -213,12 +222,9 @@ impl GivenRun {
     }
 }
 
-/// Runs a scenario under the turns of a schedule, within the budget of every run. A phase ends at the first moment when
-/// no item waits. The record is that of the run that settles every phase with just these turns; it has no marks. It
-/// fails at the first turn that isn't legal, comes after the last settle or is missing before it, with its index; where
-/// the budget is exceeded, with the phase and the record up to there; and where memory runs out.
+/// The turns of a schedule, within the budget.
 #[tactic(auto, unfolding(net_record::specs::Given::run_given), using(crate::proofs::GivenTurns::replayed))]
-pub fn replay(
+fn run_schedule(
     alloc: Global,
     scenario: &Scenario,
     schedule: &Schedule,
@@ -229,10 +235,42 @@ pub fn replay(
     let mut run = GivenRun::new(alloc, scenario)?;
     run.begin_first()?;
     let fault = run.run(schedule.turns.as_slice())?;
-    let done = run.into_record()?;
     match fault {
-        None => Ok(done),
+        None => Ok(run.into_record()?),
         Some(TurnFault::Bad(index)) => Err(ReplayFault::BadTurn { index }),
-        Some(TurnFault::Over(settle)) => Err(ReplayFault::Unsettled { settle, done }),
+        Some(TurnFault::Over(settle)) => Err(ReplayFault::Unsettled { settle }),
+    }
+}
+
+/// Runs a scenario under the turns of a schedule, within the budget of every run. A phase ends at the first moment when
+/// no item waits. The record is that of the run that settles every phase with just these turns; it has no marks, and it
+/// tells what that of every run does: what a settle tells was there, answers are what journals hold, no desk is behind,
+/// and at a settle stores that full syncs join agree. It fails at the first turn that isn't legal, comes after the last
+/// settle or is missing before it, with its index; where the budget is exceeded, with the phase; and where memory runs out.
+#[tactic(auto, using(crate::proofs::Recorded::given_recorded))]
+pub fn replay(
+    alloc: Global,
+    scenario: &Scenario,
+    schedule: &Schedule,
+) -> Result<Record, ReplayFault>
+    ensures given { IfOk result (λ done. IsGivenRecord (run_given scenario.now schedule.now.turns) done) }
+    ensures done { IfOk result (λ done. schedule_of done.turns ≡ schedule.now.turns) }
+    ensures drained { IfOk result (λ done. EndsDrained scenario.now (run_given scenario.now schedule.now.turns).last) }
+    ensures is_run { IfOk result (λ done. IsRecordOf (run scenario.now (schedule_of done.turns)) done) }
+    ensures tells { IfOk result (λ done. RecordTells scenario.now done) }
+    ensures agrees { IfOk result (λ done. RecordAgrees scenario.now done) }
+    ensures fault { IfErr result (λ fault. IsGivenFault (run_given scenario.now schedule.now.turns) fault) }
+    ensures bad { IfErr result (λ fault. NamesBadTurn (run scenario.now schedule.now.turns) fault) }
+{
+    given_is_a_run();
+    given_are_done();
+    given_ends_drained();
+    given_is_reached();
+    runs_tell();
+    records_agree();
+    scenario_is_sound(scenario);
+    match run_schedule(alloc, scenario, schedule) {
+        Ok(done) => Ok(done),
+        Err(fault) => Err(fault),
     }
 }

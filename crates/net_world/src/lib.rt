@@ -11,7 +11,8 @@
 //! a turn grows with none of them.
 //!
 //! The files: `lane` and `lanes` (the items that wait), `delivery` (outputs on lanes), `acting` (a turn of one actor),
-//! `clocks`, `answers` (those of a phase), `start`, `world`, `rounds`, `given`, and `fault`.
+//! `clocks`, `answers` (those of a phase), `start`, `world`, `scenario` (what its type
+//! keeps), `rounds`, `given`, and `fault`.
 #![tactic(auto)]
 
 mod acting;
@@ -23,6 +24,7 @@ mod given;
 mod lane;
 mod lanes;
 mod rounds;
+mod scenario;
 mod start;
 mod world;
 

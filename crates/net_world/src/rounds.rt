@@ -1,6 +1,5 @@
-ghost use Rattle.std.specs.Prelude.{◌≡◌, ◌+◌, ◌<◌, ◌^◌, [], All, IsTrue, length, IfOk, IfErr, OnOk};
+ghost use Rattle.std.specs.Prelude.{◌≡◌, ◌+◌, ◌<◌, ◌^◌, [], All, length, IfOk, IfErr, OnOk};
 ghost use Rattle.std.specs.List.{enumerate_from};
-ghost use Rattle.net_laboratory.specs.Sound.{is_sound};
 ghost use Rattle.net_record.specs.World.{start, is_drained};
 ghost use Rattle.net_record.specs.Budget.{is_over};
 ghost use Rattle.net_record.specs.Rounds.{turns_on, round, after_round, rounds_of, phase_of, rounds_of_phases, round_robin};
@@ -16,12 +15,13 @@ ghost use Rattle.net_world.specs.Fault.{IsFaultOf, FaultTells, FaultAgrees};
 
 use crate::fault::RunFault;
 use crate::lanes::Busy;
+use crate::scenario::scenario_is_sound;
 use crate::world::World;
-use net_agree::rounds_agree;
+use net_agree::records_agree;
 use net_laboratory::Scenario;
 use net_record::{
-    Phase, Record, answers_are_held, desks_asked, none_is_behind, phases, rounds_are_a_run,
-    settled_rounds_end_drained, settles_tell_stores, syncs_differ,
+    Phase, Record, desks_asked, phases, rounds_are_a_run, rounds_are_reached, runs_tell,
+    settled_rounds_end_drained,
 };
 use or_base::NoMemory;
 use std::alloc::Global;
@@ -171,13 +171,6 @@ impl MarkedWorld {
     }
 }
 
-/// What the type of a scenario keeps.
-fn scenario_is_sound(scenario: &Scenario)
-    ensures { IsTrue (is_sound scenario.now) }
-{
-    let _kind = scenario.kind;
-}
-
 /// The rounds of every phase of a scenario.
 #[tactic(auto, unfolding(net_record::specs::Rounds::round_robin))]
 fn run_scenario(alloc: Global, scenario: &Scenario) -> Result<Record, RunFault>
@@ -204,7 +197,7 @@ fn run_scenario(alloc: Global, scenario: &Scenario) -> Result<Record, RunFault>
 #[tactic(auto, using(crate::proofs::Recorded::recorded))]
 pub fn round_robin(alloc: Global, scenario: &Scenario) -> Result<Record, RunFault>
     ensures rounds { IfOk result (λ done. IsSettled (round_robin scenario.now) done) }
-    ensures drained { IfOk result (λ done. EndsDrained scenario.now) }
+    ensures drained { IfOk result (λ done. EndsDrained scenario.now (round_robin scenario.now).last.world) }
     ensures is_run { IfOk result (λ done. IsRecordOf (run scenario.now (schedule_of done.turns)) done) }
     ensures tells { IfOk result (λ done. RecordTells scenario.now done) }
     ensures agrees { IfOk result (λ done. RecordAgrees scenario.now done) }
@@ -214,11 +207,9 @@ pub fn round_robin(alloc: Global, scenario: &Scenario) -> Result<Record, RunFaul
 {
     rounds_are_a_run();
     settled_rounds_end_drained();
-    settles_tell_stores();
-    answers_are_held();
-    none_is_behind();
-    syncs_differ();
-    rounds_agree();
+    rounds_are_reached();
+    runs_tell();
+    records_agree();
     scenario_is_sound(scenario);
     match run_scenario(alloc, scenario) {
         Ok(done) => Ok(done),

@@ -1,5 +1,5 @@
 -- What the program runs so far.
-use Rattle.std.specs.Prelude.{Bool, true, false, ◌&&◌, is_none}
+use Rattle.std.specs.Prelude.{Bool, true, false, ◌&&◌}
 use Rattle.std.specs.List.{list_all}
 use Rattle.lab_words.specs.declared.words.Mode.{Mode}
 use Rattle.lab_words.specs.declared.words.Mode.TheVariants.{Replay, Live, Gen, Check}
@@ -42,9 +42,9 @@ is_command_built (Withdraw node prefix) = false
 is_command_built (Aggregate node prefix least) = false
 is_command_built (Ask node prefix) = false
 
--- stores and links, as many as a scenario may have, with no other commands and without given turns
+-- stores and links, as many as a scenario may have, with no other commands
 unfoldable pub is_lab_built : Laboratory → Bool
-is_lab_built lab = is_kind_built lab.kind && list_all is_command_built lab.commands && is_none lab.turns
+is_lab_built lab = is_kind_built lab.kind && list_all is_command_built lab.commands
 
 -- the program runs the scenario in the mode that was asked for
 abbrev pub is_built : Words → Laboratory → Bool

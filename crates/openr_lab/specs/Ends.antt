@@ -1,30 +1,36 @@
 -- What each end of the program says of the words, the bytes read, the bytes written and the record.
-use Rattle.std.specs.Prelude.{◌≡◌, ◌⊎◌, ℕ, List, [], Bool, true, false, ◌||◌, ◌==◌, if◌then◌else◌, Option, Some, None, Ok, codes, String, string_bytes, map}
+use Rattle.std.specs.Prelude.{◌≡◌, ◌⊎◌, ℕ, List, [], Bool, true, false, ◌||◌, ◌==◌, if◌then◌else◌, Option, Some, None, Ok, Err, codes, String, string_bytes, map}
 use Rattle.std.specs.declared.alloc.Global.{Global}
 use Rattle.lab_words.specs.declared.words.Words.{Words}
 use Rattle.lab_words.specs.Words.{words_of}
 use Rattle.net_laboratory.specs.Scenario.{Laboratory}
+use Rattle.net_laboratory.specs.declared.schedule.Schedule.{Schedule}
+use Rattle.net_laboratory.specs.declared.schedule.Turn.{Turn}
 use Rattle.net_scenario.specs.Language.{scenario_of}
 use Rattle.net_record.specs.declared.record.Record.{Record}
+use Rattle.net_record.specs.World.{WorldState}
 use Rattle.net_record.specs.Rounds.{round_robin}
+use Rattle.net_record.specs.Given.{run_given}
+use Rattle.net_record.specs.Given.GivenFault.{BadTurn, OverBudget}
 use Rattle.net_record.specs.Run.{run as run_of, schedule_of}
 use Rattle.net_record.specs.Records.{IsSettled, IsUnsettled, IsRecordOf}
 use Rattle.net_record.specs.Ends.{EndsDrained}
 use Rattle.net_record.specs.Tells.{RecordTells}
 use Rattle.net_agree.specs.Recorded.{RecordAgrees}
+use Rattle.net_world.specs.Given.{IsGivenRecord}
 use Rattle.net_report.specs.Report.{line, report as report_of}
 use Rattle.openr_lab.specs.declared.answer.Answer.{Answer}
 use Rattle.openr_lab.specs.Streams.{read_limit, ReadWhole, WroteWhole, WroteFront}
 use Rattle.openr_lab.specs.Built.{is_mode_built, is_built}
-use Rattle.openr_lab.specs.Answer.{answer_to, not_built_line, unsettled_line}
+use Rattle.openr_lab.specs.Answer.{answer_to, not_built_line, unsettled_line, bad_turn_line}
 
--- the statuses: done, wrong words, no scenario, unsettled, out of memory, a read that failed, a write that failed
+-- the statuses: done, wrong words, no scenario, unsettled, out of memory, a read that failed, a write that failed, a bad turn
 abbrev pub is_status : ℕ → Bool
-is_status n = n == 0 || n == 2 || n == 3 || n == 4 || n == 5 || n == 6 || n == 7
+is_status n = n == 0 || n == 2 || n == 3 || n == 4 || n == 5 || n == 6 || n == 7 || n == 8
 
 -- the statuses at which the answer to the bytes was written
 abbrev pub IsAnswerStatus : ℕ → Type 0
-IsAnswerStatus n = (n ≡ 0) ⊎ ((n ≡ 3) ⊎ (n ≡ 4))
+IsAnswerStatus n = (n ≡ 0) ⊎ ((n ≡ 3) ⊎ ((n ≡ 4) ⊎ (n ≡ 8)))
 
 -- what the words ask for
 abbrev pub asked_by : List (String Global) → Option Words
@@ -94,30 +100,65 @@ abbrev pub AnswerFailed : Words → Option (List ℕ) → Option (List ℕ) → 
 AnswerFailed words left left' taken taken' run =
     ReadFailed words left left' taken taken' run ⊎ NotBuiltFailed words left left' taken taken' run
 
--- What status 0 says of the run of a laboratory: the record is that of its run by round robin, which settled every
--- phase and left no item. But for its marks it is the record of the run under the schedule of its own turns. What it
--- tells of stores, answers and full syncs holds (`RecordTells`), and stores that full syncs join agree at its settles
--- (`RecordAgrees`). The text is its report.
+-- the record is that of the run that the laboratory asks for, which settled every phase: by round robin, or under the
+-- turns that it gives
+abbrev pub IsSettledBy : Option Schedule → Laboratory → Record → Type 0
+IsSettledBy None lab done = IsSettled (round_robin lab) done
+IsSettledBy (Some schedule) lab done = IsGivenRecord (run_given lab schedule.turns) done × (schedule_of done.turns ≡ schedule.turns)
+
+-- the world in which that run ends
+abbrev pub last_by : Option Schedule → Laboratory → WorldState
+last_by None lab = (round_robin lab).last.world
+last_by (Some schedule) lab = (run_given lab schedule.turns).last
+
+-- What status 0 says of the run of a laboratory: the record is that of its run by round robin, or under the turns that it
+-- gives, which settled every phase and left no item. But for its marks it is the record of the run under the schedule of
+-- its own turns. What it tells of stores, answers and full syncs holds (`RecordTells`), and stores that full syncs join
+-- agree at its settles (`RecordAgrees`). The text is its report.
 pub record IsReplay (lab : Laboratory) (trace : Bool) (text : List ℕ) (run : Option Record) : Type 0 where
   pub done : Record
   pub recorded : run ≡ Some done
-  pub rounds : IsSettled (round_robin lab) done
-  pub drained : EndsDrained lab
+  pub settled : IsSettledBy lab.turns lab done
+  pub drained : EndsDrained lab (last_by lab.turns lab)
   pub is_run : IsRecordOf (run_of lab (schedule_of done.turns)) done
   pub tells : RecordTells lab done
   pub agrees : RecordAgrees lab done
   pub report : text ≡ report_of done lab trace
 
--- What status 4 says of the run of a laboratory: the record is that of its run by round robin up to a phase that is
--- unsettled, and what it tells holds all the same. The text names the phase.
-pub record IsUnsettledRun (lab : Laboratory) (text : List ℕ) (run : Option Record) : Type 0 where
-  pub phase : ℕ
+-- Round robin left the phase with this number unsettled. The record is that of the run as far as it came, and what it tells
+-- holds all the same.
+pub record IsUnsettledRounds (lab : Laboratory) (phase : ℕ) (run : Option Record) : Type 0 where
   pub done : Record
   pub recorded : run ≡ Some done
   pub rounds : IsUnsettled (round_robin lab) phase done
   pub tells : RecordTells lab done
   pub agrees : RecordAgrees lab done
+
+-- Under given turns the budget is exceeded in this phase. There is no record.
+pub record IsOverBudget (lab : Laboratory) (turns : List Turn) (phase : ℕ) (run : Option Record) : Type 0 where
+  pub over : (run_given lab turns).fault ≡ Some (OverBudget phase)
+  pub no_record : run ≡ None
+
+abbrev pub IsUnsettledBy : Option Schedule → Laboratory → ℕ → Option Record → Type 0
+IsUnsettledBy None lab phase run = IsUnsettledRounds lab phase run
+IsUnsettledBy (Some schedule) lab phase run = IsOverBudget lab schedule.turns phase run
+
+-- What status 4 says of the run of a laboratory: the text names the phase that is unsettled.
+pub record IsUnsettledRun (lab : Laboratory) (text : List ℕ) (run : Option Record) : Type 0 where
+  pub phase : ℕ
+  pub unsettled : IsUnsettledBy lab.turns lab phase run
   pub named : text ≡ unsettled_line phase
+
+-- What status 8 says of the run of a laboratory: the text names the first given turn that isn't legal, comes after the last
+-- settle or is missing before it, and before it the budget isn't exceeded. There is no record.
+pub record IsBadTurn (lab : Laboratory) (text : List ℕ) (run : Option Record) : Type 0 where
+  pub schedule : Schedule
+  pub given : lab.turns ≡ Some schedule
+  pub index : ℕ
+  pub bad : run_of lab schedule.turns ≡ Err index
+  pub first : (run_given lab schedule.turns).fault ≡ Some (BadTurn index)
+  pub named : text ≡ bad_turn_line index
+  pub no_record : run ≡ None
 
 -- these bytes are a scenario that the program runs under these words, and this holds of its laboratory
 abbrev pub IsRun : Words → List ℕ → (Laboratory → Type 0) → Type 0
@@ -145,6 +186,13 @@ pub record AnsweredUnsettled (words : Words) (left left' taken taken' : Option (
   pub text : List ℕ
   pub ran : RunAnswered words left left' taken taken' lab text
   pub unsettled : IsUnsettledRun lab text run
+
+-- What status 8 says of the whole call: the text names the bad one of the turns that the scenario gives.
+pub record AnsweredBadTurn (words : Words) (left left' taken taken' : Option (List ℕ)) (run : Option Record) : Type 0 where
+  pub lab : Laboratory
+  pub text : List ℕ
+  pub ran : RunAnswered words left left' taken taken' lab text
+  pub bad : IsBadTurn lab text run
 
 -- ---- the same of the words as they are given
 

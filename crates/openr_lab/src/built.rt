@@ -44,9 +44,7 @@ fn are_commands_built(commands: &[Command]) -> bool
 fn is_lab_built(scenario: &Scenario) -> bool
     ensures { result ≡ is_lab_built scenario.now }
 {
-    scenario.kind == Kind::Stores
-        && are_commands_built(scenario.commands())
-        && scenario.turns.is_none()
+    scenario.kind == Kind::Stores && are_commands_built(scenario.commands())
 }
 
 /// The program runs the scenario in the mode that was asked for. It takes no memory.

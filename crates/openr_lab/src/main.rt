@@ -1,7 +1,7 @@
 //! The program: bytes in, bytes and a status out.
 //!
 //! `openr` does all that the program does, over any source and any sink: it reads the words, then the source, runs
-//! the scenario by round robin and writes the report. Input is read whole before anything is done with it, and every
+//! the scenario by round robin or under the turns that it gives, and writes the report. Input is read whole before anything is done with it, and every
 //! text is made whole before its first byte goes out. Its contract is the theorem on the whole program: what each
 //! status says of the words, of the bytes read, of the bytes written and of the record (`specs/Ends.antt`, over
 //! `answer_to` of `specs/Answer.antt`). What the program doesn't run yet is said in one place (`specs/Built.antt`).

@@ -1,7 +1,7 @@
 //! The texts of the statuses other than 0.
 
 ghost use Rattle.std.specs.Prelude.{◌≡◌, IfOk};
-ghost use Rattle.openr_lab.specs.Answer.{fault_text, fault_line, unsettled_line};
+ghost use Rattle.openr_lab.specs.Answer.{fault_text, fault_line, unsettled_line, bad_turn_line};
 
 use net_scenario::ScenarioFault;
 use or_base::{Bytes, NoMemory};
@@ -36,5 +36,13 @@ pub fn unsettled_line(alloc: Global, settle: u64) -> Result<Bytes, NoMemory>
     ensures { IfOk result (λ text. text ≡ unsettled_line settle) }
 {
     let text = format!(in alloc; "unsettled in settle {settle}\n")?;
+    Ok(Bytes::from_vec(text.into_bytes()))
+}
+
+/// `bad turn <index>`: the given turn with this index, from 0, can't be done.
+pub fn bad_turn_line(alloc: Global, index: u64) -> Result<Bytes, NoMemory>
+    ensures { IfOk result (λ text. text ≡ bad_turn_line index) }
+{
+    let text = format!(in alloc; "bad turn {index}\n")?;
     Ok(Bytes::from_vec(text.into_bytes()))
 }

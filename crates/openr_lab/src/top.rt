@@ -1,6 +1,6 @@
 ghost use Rattle.std.specs.Prelude.{◌≡◌, ◌≢◌, ◌<◌, ◌^◌, ◌⊎◌, IsTrue, true, None};
 ghost use Rattle.openr_lab.specs.Built.{is_mode_built};
-ghost use Rattle.openr_lab.specs.Ends.{is_status, IsAnswerStatus, IsAsked, Answered, AnswerFailed, Done, AnsweredUnsettled, RefusedWords, UsageFailed};
+ghost use Rattle.openr_lab.specs.Ends.{is_status, IsAnswerStatus, IsAsked, Answered, AnswerFailed, Done, AnsweredUnsettled, AnsweredBadTurn, RefusedWords, UsageFailed};
 
 use crate::answer::Answer;
 use crate::built::is_mode_built;
@@ -32,13 +32,15 @@ pub fn openr_plain<S: Source, K: Sink>(
 
     ensures known { IsTrue (is_status result.status) }
     ensures not_usage { result.status ≢ 2 }
-    // The bytes decide among the statuses 0, 3 and 4; a mode that isn't built is status 3 before they are read.
+    // The bytes decide among the statuses 0, 3, 4 and 8; a mode that isn't built is status 3 before they are read.
     ensures answered { IsAnswerStatus result.status
         → Answered words.now (S.left source.old) (S.left source.new) (K.taken sink.old) (K.taken sink.new) result.status result.run }
     ensures done { result.status ≡ 0
         → Done words.now (S.left source.old) (S.left source.new) (K.taken sink.old) (K.taken sink.new) result.run }
     ensures unsettled { result.status ≡ 4
         → AnsweredUnsettled words.now (S.left source.old) (S.left source.new) (K.taken sink.old) (K.taken sink.new) result.run }
+    ensures bad_turn { result.status ≡ 8
+        → AnsweredBadTurn words.now (S.left source.old) (S.left source.new) (K.taken sink.old) (K.taken sink.new) result.run }
 
     ensures memory_untaken { result.status ≡ 5 → K.taken sink.new ≡ K.taken sink.old }
     ensures memory_no_record { result.status ≡ 5 → result.run ≡ None }
@@ -90,13 +92,15 @@ pub fn openr<S: Source, K: Sink>(
     // The words are wrong exactly where the status is 2, unless memory ran out or the write failed.
     ensures usage { result.status ≡ 2
         → RefusedWords words.now (S.left source.old) (S.left source.new) (K.taken sink.old) (K.taken sink.new) result.run }
-    // The bytes decide among the statuses 0, 3 and 4; a mode that isn't built is status 3 before they are read.
+    // The bytes decide among the statuses 0, 3, 4 and 8; a mode that isn't built is status 3 before they are read.
     ensures answered { IsAnswerStatus result.status
         → IsAsked words.now (λ asked. Answered asked (S.left source.old) (S.left source.new) (K.taken sink.old) (K.taken sink.new) result.status result.run) }
     ensures done { result.status ≡ 0
         → IsAsked words.now (λ asked. Done asked (S.left source.old) (S.left source.new) (K.taken sink.old) (K.taken sink.new) result.run) }
     ensures unsettled { result.status ≡ 4
         → IsAsked words.now (λ asked. AnsweredUnsettled asked (S.left source.old) (S.left source.new) (K.taken sink.old) (K.taken sink.new) result.run) }
+    ensures bad_turn { result.status ≡ 8
+        → IsAsked words.now (λ asked. AnsweredBadTurn asked (S.left source.old) (S.left source.new) (K.taken sink.old) (K.taken sink.new) result.run) }
 
     ensures memory_untaken { result.status ≡ 5 → K.taken sink.new ≡ K.taken sink.old }
     ensures memory_no_record { result.status ≡ 5 → result.run ≡ None }
