@@ -4,7 +4,7 @@
     python3 bench/reading.py
 
 Prints, for each, the bytes, the seconds (best of three), the greatest memory in use, how often that is the input, and
-the answer. The inputs give turns, and so aren't run: what is measured is reading alone.
+the answer. The laboratories are full ones, which aren't run yet: what is measured is reading alone.
 """
 from measure import best
 
@@ -13,7 +13,7 @@ A_TURN = '{"do":"turn","lane":0,"at":0}'
 
 
 def declarations():
-    lines = ['{"do":"lab","kind":"stores"}']
+    lines = ['{"do":"lab","kind":"full"}']
     lines += ['{"do":"node","name":"n%d"}' % n for n in range(64)]
     for n in range(64):
         for d in range(4):
@@ -27,7 +27,7 @@ def long_lines(share):
     size = sum(len(line) + 1 for line in lines) + len(A_TURN) + 1
     n = 0
     while len(lines) < 9_999:
-        line = '{"do":"set","node":"n%d","key":"key-%d","version":%d,"text":"%s"}' % (n % 64, n % 512, n + 1, "w" * 4096)
+        line = '{"do":"set","node":"n%d","key":"key-%d","version":%d,"text":"%s"}' % (n % 64, n % 256, n + 1, "w" * 4096)
         if size + len(line) + 1 > MOST * share:
             break
         lines.append(line)
@@ -38,7 +38,7 @@ def long_lines(share):
 
 def many_sets(count):
     lines = declarations()
-    lines += ['{"do":"set","node":"n%d","key":"key-%d","version":%d,"hex":"00"}' % (n % 64, n % 512, n + 1) for n in range(count)]
+    lines += ['{"do":"set","node":"n%d","key":"key-%d","version":%d,"hex":"00"}' % (n % 64, n % 256, n + 1) for n in range(count)]
     return lines + [A_TURN]
 
 
