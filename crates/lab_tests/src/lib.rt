@@ -19,6 +19,8 @@ mod records;
 #[cfg(test)]
 mod replays;
 #[cfg(test)]
+mod spark;
+#[cfg(test)]
 mod tables;
 #[cfg(test)]
 mod timers;

@@ -7,11 +7,11 @@ use Rattle.or_base.specs.declared.item.Item.{Item}
 use Rattle.or_base.specs.declared.kind.Kind.TheVariants.{Stores}
 use Rattle.or_actor.specs.Steps.{TurnMade}
 use Rattle.kv_store.specs.Store.{StoreState, new_store, store_step}
-use Rattle.net_record.specs.declared.role.NodeModule.TheVariants.{Store as StoreRole, Desk as DeskRole}
+use Rattle.net_record.specs.declared.role.NodeModule.TheVariants.{Spark as SparkRole, Store as StoreRole, Desk as DeskRole}
 use Rattle.net_record.specs.declared.role.Role.{Role}
 use Rattle.net_record.specs.declared.role.Role.TheVariants.{Driver as DriverRole, Node, Link as LinkRole}
 use Rattle.net_record.specs.declared.kinds.AnyModule.{AnyModule}
-use Rattle.net_record.specs.declared.kinds.AnyModule.TheVariants.{Store, Link}
+use Rattle.net_record.specs.declared.kinds.AnyModule.TheVariants.{Spark, Store, Link}
 use Rattle.net_record.specs.declared.part.Part.{Part}
 use Rattle.net_record.specs.declared.part.Part.TheVariants.{Driver, Desk, Module}
 use Rattle.net_record.specs.declared.actor.ActorState.{ActorState}
@@ -34,8 +34,9 @@ store_there w number s h = ap (λ (a : ActorState). store_of a.part) (get_or_fro
 
 new_one : (role : Role) (s : StoreState) → store_of (new_part role) ≡ Some s → (me : List ℕ) × (s ≡ new_store Stores me)
 new_one DriverRole s e = absurd (cc e)
-new_one (Node StoreRole node store) s e = (node, cc e)
-new_one (Node DeskRole node store) s e = absurd (cc e)
+new_one (Node SparkRole node setup) s e = absurd (cc e)
+new_one (Node StoreRole node setup) s e = (node, cc e)
+new_one (Node DeskRole node setup) s e = absurd (cc e)
 new_one (LinkRole link a b) s e = absurd (cc e)
 
 -- each store is as it starts
@@ -55,6 +56,7 @@ IsAfter actors reader item number s =
 module_after : (m : AnyModule) (lane : ℕ) (item : Item) (s : StoreState) → store_in (module_step m lane item).0 ≡ Some s
     → (before : StoreState) × (store_in m ≡ Some before) × (s ≡ (store_step before item).0)
 unfolding module_step
+module_after (Spark b) lane item s e = absurd (cc e)
 module_after (Store b) lane item s e = (b, refl, cc e)
 module_after (Link l) lane item s e = absurd (cc e)
 

@@ -1,3 +1,4 @@
+pub mod Sparks
 pub mod RoutedStores
 pub mod RoutedLanes
 pub mod RoutedSends
@@ -19,6 +20,7 @@ pub mod LiftedRoles
 pub mod LiftedWay
 pub mod LiftedIssues
 pub mod LiftedTaken
+pub mod LiftedSparks
 pub mod LiftedTurn
 pub mod Lifted
 pub mod Settled

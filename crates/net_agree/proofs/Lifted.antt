@@ -23,7 +23,7 @@ use Rattle.net_laboratory.specs.Scenario.{Laboratory}
 use Rattle.net_laboratory.specs.Sound.{is_sound}
 use Rattle.net_link.specs.Link.{LinkState, new_link}
 use Rattle.net_link.specs.Flow.{held_of}
-use Rattle.net_record.specs.declared.role.NodeModule.TheVariants.{Store as StoreRole, Desk as DeskRole}
+use Rattle.net_record.specs.declared.role.NodeModule.TheVariants.{Spark as SparkRole, Store as StoreRole, Desk as DeskRole}
 use Rattle.net_record.specs.declared.role.Role.{Role}
 use Rattle.net_record.specs.declared.role.Role.TheVariants.{Driver as DriverRole, Node, Link as LinkRole}
 use Rattle.net_record.specs.declared.part.Part.{Part}
@@ -196,9 +196,10 @@ none_held_if false held msg none h = omega (arith, h.1)
 
 none_held : (link : ℕ) (node : List ℕ) (msg : Msg) (role : Role) → Contains (held_by link node (new_actor role)) msg → ⊥
 none_held link node msg DriverRole h = omega (arith, h.1)
-none_held link node msg (Node StoreRole name store) h = omega (arith, h.1)
-none_held link node msg (Node DeskRole name store) h = omega (arith, h.1)
-none_held link node msg (LinkRole l a b) h = none_held_if _ (held_of (new_link l a b) node) msg (none_either _ _ msg) h
+none_held link node msg (Node SparkRole name setup) h = omega (arith, h.1)
+none_held link node msg (Node StoreRole name setup) h = omega (arith, h.1)
+none_held link node msg (Node DeskRole name setup) h = omega (arith, h.1)
+none_held link node msg (LinkRole l a b) h = none_held_if _ (held_of (new_link Stores l a b) node) msg (none_either _ _ msg) h
 
 none_by_new : (link : ℕ) (node : List ℕ) (msg : Msg) (all : List Role) → Contains (flat_map (held_by link node) (map new_actor all)) msg → ⊥
 none_by_new link node msg [] h = omega (arith, h.1)

@@ -19,10 +19,11 @@ use Rattle.net_laboratory.proofs.Room.{first_of}
 use Rattle.net_laboratory.specs.Sound.{are_admitted, admits_node, admits_link, is_sound}
 use Rattle.net_record.specs.declared.role.NodeModule.{NodeModule}
 use Rattle.net_record.specs.declared.role.NodeModule.TheVariants.{Store as StoreRole}
+use Rattle.net_record.specs.declared.role.NodeSetup.{NodeSetup}
 use Rattle.net_record.specs.declared.role.Role.{Role}
 use Rattle.net_record.specs.declared.role.Role.TheVariants.{Driver as DriverRole, Node, Link as LinkRole}
-use Rattle.net_record.specs.Roles.{modules_of, is_same_module, store_number, node_roles, link_role, is_module, roles}
-use Rattle.net_record.proofs.Places.{how_many, how_many-append}
+use Rattle.net_record.specs.Roles.{modules_of, is_same_module, node_roles, link_role, is_module, roles}
+use Rattle.net_record.proofs.Places.{how_many, how_many-append, setup_at}
 use Rattle.net_agree.specs.Routed.{AreEnds}
 use Rattle.net_agree.proofs.LiftedLists.{some_is}
 
@@ -76,18 +77,18 @@ stores_named-both : (name : List ℕ) (xs ys : List Role) → stores_named name 
 stores_named-both name xs ys = ap how_many (map-append (is_module StoreRole name) xs ys) ∙ how_many-append (map (is_module StoreRole name) xs) (map (is_module StoreRole name) ys)
 
 -- a node of another name has none
-none_elsewhere : (name node : List ℕ) (store : ℕ) (modules : List NodeModule) → bytes_eq node name ≡ false → stores_named name (map (λ m. Node m node store) modules) ≡ 0
-none_elsewhere name node store [] other = refl
-none_elsewhere name node store (m ∷ modules) other =
-    ap (λ b. how_many (b ∷ map (is_module StoreRole name) (map (λ m. Node m node store) modules))) (and_right (is_same_module StoreRole m) (bytes_eq node name) other)
-    ∙ none_elsewhere name node store modules other
+none_elsewhere : (name node : List ℕ) (setup : NodeSetup) (modules : List NodeModule) → bytes_eq node name ≡ false → stores_named name (map (λ m. Node m node setup) modules) ≡ 0
+none_elsewhere name node setup [] other = refl
+none_elsewhere name node setup (m ∷ modules) other =
+    ap (λ b. how_many (b ∷ map (is_module StoreRole name) (map (λ m. Node m node setup) modules))) (and_right (is_same_module StoreRole m) (bytes_eq node name) other)
+    ∙ none_elsewhere name node setup modules other
 
-same_here : (name node : List ℕ) (store : ℕ) (modules : List NodeModule) → bytes_eq node name ≡ true
-    → map (is_module StoreRole name) (map (λ m. Node m node store) modules) ≡ map (λ m. is_same_module StoreRole m && true) modules
-same_here name node store [] same = refl
-same_here name node store (m ∷ modules) same =
-    ap (λ b. (is_same_module StoreRole m && b) ∷ map (is_module StoreRole name) (map (λ m. Node m node store) modules)) same
-    ∙ ap (λ bs. (is_same_module StoreRole m && true) ∷ bs) (same_here name node store modules same)
+same_here : (name node : List ℕ) (setup : NodeSetup) (modules : List NodeModule) → bytes_eq node name ≡ true
+    → map (is_module StoreRole name) (map (λ m. Node m node setup) modules) ≡ map (λ m. is_same_module StoreRole m && true) modules
+same_here name node setup [] same = refl
+same_here name node setup (m ∷ modules) same =
+    ap (λ b. (is_same_module StoreRole m && b) ∷ map (is_module StoreRole name) (map (λ m. Node m node setup) modules)) same
+    ∙ ap (λ bs. (is_same_module StoreRole m && true) ∷ bs) (same_here name node setup modules same)
 
 -- a node's modules have one store at most
 abbrev HaveOneStore : List NodeModule → Type 0
@@ -107,9 +108,9 @@ same_name a b = (bytes_eq-Decides a b).0
 name_itself : (a : List ℕ) → bytes_eq a a ≡ true
 name_itself a = (bytes_eq-Decides a a).1 refl
 
-module _ (name : List ℕ) (modules : List NodeModule) (one : HaveOneStore modules) where
+module _ (name : List ℕ) (modules : List NodeModule) (links : List LinkDecl) (one : HaveOneStore modules) where
   abbrev NodesFrom : ℕ → List NodeDecl → List Role
-  NodesFrom first nodes = flat_map (node_roles modules) (enumerate_from first nodes)
+  NodesFrom first nodes = flat_map (node_roles modules links) (enumerate_from first nodes)
 
   abbrev is_named : NodeDecl → Bool
   is_named node = bytes_eq node.name name
@@ -129,15 +130,15 @@ module _ (name : List ℕ) (modules : List NodeModule) (one : HaveOneStore modul
       list_any-append is_named before (node ∷ []) ∙ ap (λ b. is_declared before name || (b || false)) same ∙ or_true (is_declared before name)
 
   block_is : (first : ℕ) (node : NodeDecl) (nodes : List NodeDecl)
-      → stores_named name (NodesFrom first (node ∷ nodes)) ≡ stores_named name (node_roles modules (first, node)) + stores_named name (NodesFrom (first + 1) nodes)
-  block_is first node nodes = stores_named-both name (node_roles modules (first, node)) (NodesFrom (first + 1) nodes)
+      → stores_named name (NodesFrom first (node ∷ nodes)) ≡ stores_named name (node_roles modules links (first, node)) + stores_named name (NodesFrom (first + 1) nodes)
+  block_is first node nodes = stores_named-both name (node_roles modules links (first, node)) (NodesFrom (first + 1) nodes)
 
   -- behind the node of that name there is none
   none_behind : (before nodes : List NodeDecl) (first : ℕ) → are_admitted admits_node before nodes ≡ true → is_declared before name ≡ true → stores_named name (NodesFrom first nodes) ≡ 0
   none_behind before [] first admitted declared = refl
   none_behind before (node ∷ nodes) first admitted declared =
       let parts = and_parts (admits_node before node) (are_admitted admits_node (before ++ node ∷ []) nodes) admitted in
-      let here = none_elsewhere name node.name (store_number modules first) modules (other_than before node parts.0 declared) in
+      let here = none_elsewhere name node.name (setup_at modules links first node) modules (other_than before node parts.0 declared) in
       let later = none_behind (before ++ node ∷ []) nodes (first + 1) parts.1 (declared_later before node declared) in
       omega (arith, block_is first node nodes, here, later)
 
@@ -147,11 +148,11 @@ module _ (name : List ℕ) (modules : List NodeModule) (one : HaveOneStore modul
       let parts = and_parts (admits_node before node) (are_admitted admits_node (before ++ node ∷ []) nodes) admitted in
       elim (cases_Bool (bytes_eq node.name name)) [
         | inl same ↦
-            let here = ap how_many (same_here name node.name (store_number modules first) modules same) in
+            let here = ap how_many (same_here name node.name (setup_at modules links first node) modules same) in
             let later = none_behind (before ++ node ∷ []) nodes (first + 1) parts.1 (declared_last before node same) in
             omega (arith, block_is first node nodes, here, one, later)
         | inr other ↦
-            let here = none_elsewhere name node.name (store_number modules first) modules other in
+            let here = none_elsewhere name node.name (setup_at modules links first node) modules other in
             let later = one_named (before ++ node ∷ []) nodes (first + 1) parts.1 in
             omega (arith, block_is first node nodes, here, later)
       ]
@@ -162,19 +163,19 @@ no_store_link name first (link ∷ links) = no_store_link name (first + 1) links
 
 stores_in : (lab : Laboratory) (name : List ℕ) → is_sound lab ≡ true → stores_named name (roles lab) ≤ 1
 stores_in lab name sound =
-    let nodes = flat_map (node_roles (modules_of lab.kind)) (enumerate_from 0 lab.nodes) in
+    let nodes = flat_map (node_roles (modules_of lab.kind) lab.links) (enumerate_from 0 lab.nodes) in
     let both = stores_named-both name nodes (map link_role (enumerate_from 0 lab.links)) in
-    let one = one_named name (modules_of lab.kind) (one_store lab.kind) [] lab.nodes 0 (sound_nodes lab sound) in
+    let one = one_named name (modules_of lab.kind) lab.links (one_store lab.kind) [] lab.nodes 0 (sound_nodes lab sound) in
     omega (arith, both, one, no_store_link name 0 lab.links)
 
-role_named : (all : List Role) (x store : ℕ) (name : List ℕ) → slice_get all x ≡ Some (Node StoreRole name store) → slice_get (map (is_module StoreRole name) all) x ≡ Some true
-role_named all x store name there = slice_get-map (is_module StoreRole name) all x ∙ ap (option_map (is_module StoreRole name)) there ∙ ap Some (name_itself name)
+role_named : (all : List Role) (x : ℕ) (setup : NodeSetup) (name : List ℕ) → slice_get all x ≡ Some (Node StoreRole name setup) → slice_get (map (is_module StoreRole name) all) x ≡ Some true
+role_named all x setup name there = slice_get-map (is_module StoreRole name) all x ∙ ap (option_map (is_module StoreRole name)) there ∙ ap Some (name_itself name)
 
 -- two stores of one node are one actor
-pub one_place : (lab : Laboratory) (x y store other : ℕ) (name : List ℕ) → is_sound lab ≡ true → slice_get (roles lab) x ≡ Some (Node StoreRole name store)
+pub one_place : (lab : Laboratory) (x y : ℕ) (setup other : NodeSetup) (name : List ℕ) → is_sound lab ≡ true → slice_get (roles lab) x ≡ Some (Node StoreRole name setup)
     → slice_get (roles lab) y ≡ Some (Node StoreRole name other) → x ≡ y
-one_place lab x y store other name sound at_x at_y =
-    one_true (map (is_module StoreRole name) (roles lab)) x y (stores_in lab name sound) (role_named (roles lab) x store name at_x) (role_named (roles lab) y other name at_y)
+one_place lab x y setup other name sound at_x at_y =
+    one_true (map (is_module StoreRole name) (roles lab)) x y (stores_in lab name sound) (role_named (roles lab) x setup name at_x) (role_named (roles lab) y other name at_y)
 
 -- ---- the ends of a link
 
@@ -201,30 +202,30 @@ link_found (link ∷ links) first l a b h =
           record { place = suc found.place; decl = found.decl; there = found.there; number = omega (arith, found.number); end_a = found.end_a; end_b = found.end_b }
     ]
 
-no_link_in : (modules : List NodeModule) (node : List ℕ) (store l : ℕ) (a b : List ℕ) → Contains (map (λ m. Node m node store) modules) (LinkRole l a b) → ⊥
-no_link_in [] node store l a b h = omega (arith, h.1)
-no_link_in (m ∷ modules) node store l a b h =
-    elim (Contains-cases (Node m node store) (map (λ m. Node m node store) modules) (LinkRole l a b) h) [ inl same ↦ not_link same | inr later ↦ no_link_in modules node store l a b later ] where
-      not_link : Node m node store ≡ LinkRole l a b → ⊥
+no_link_in : (modules : List NodeModule) (node : List ℕ) (setup : NodeSetup) (l : ℕ) (a b : List ℕ) → Contains (map (λ m. Node m node setup) modules) (LinkRole l a b) → ⊥
+no_link_in [] node setup l a b h = omega (arith, h.1)
+no_link_in (m ∷ modules) node setup l a b h =
+    elim (Contains-cases (Node m node setup) (map (λ m. Node m node setup) modules) (LinkRole l a b) h) [ inl same ↦ not_link same | inr later ↦ no_link_in modules node setup l a b later ] where
+      not_link : Node m node setup ≡ LinkRole l a b → ⊥
       not_link same = cc
 
-no_link_among : (modules : List NodeModule) (nodes : List NodeDecl) (first l : ℕ) (a b : List ℕ) → Contains (flat_map (node_roles modules) (enumerate_from first nodes)) (LinkRole l a b) → ⊥
-no_link_among modules [] first l a b h = omega (arith, h.1)
-no_link_among modules (node ∷ nodes) first l a b h =
-    elim (Contains-append_cases (node_roles modules (first, node)) (flat_map (node_roles modules) (enumerate_from (first + 1) nodes)) (LinkRole l a b) h) [
+no_link_among : (modules : List NodeModule) (links : List LinkDecl) (nodes : List NodeDecl) (first l : ℕ) (a b : List ℕ) → Contains (flat_map (node_roles modules links) (enumerate_from first nodes)) (LinkRole l a b) → ⊥
+no_link_among modules links [] first l a b h = omega (arith, h.1)
+no_link_among modules links (node ∷ nodes) first l a b h =
+    elim (Contains-append_cases (node_roles modules links (first, node)) (flat_map (node_roles modules links) (enumerate_from (first + 1) nodes)) (LinkRole l a b) h) [
       | inl here ↦ no_link_in modules node.name _ l a b here
-      | inr later ↦ no_link_among modules nodes (first + 1) l a b later
+      | inr later ↦ no_link_among modules links nodes (first + 1) l a b later
     ]
 
 role_link : (lab : Laboratory) (l : ℕ) (a b : List ℕ) → Contains (roles lab) (LinkRole l a b) → IsLinkOf lab.links 0 l a b
 role_link lab l a b h =
-    let nodes = flat_map (node_roles (modules_of lab.kind)) (enumerate_from 0 lab.nodes) in
+    let nodes = flat_map (node_roles (modules_of lab.kind) lab.links) (enumerate_from 0 lab.nodes) in
     let links = map link_role (enumerate_from 0 lab.links) in
     elim (Contains-cases DriverRole (nodes ++ links) (LinkRole l a b) h) [
       | inl same ↦ absurd (not_driver same)
       | inr later ↦
           elim (Contains-append_cases nodes links (LinkRole l a b) later) [
-            | inl among ↦ absurd (no_link_among (modules_of lab.kind) lab.nodes 0 l a b among)
+            | inl among ↦ absurd (no_link_among (modules_of lab.kind) lab.links lab.nodes 0 l a b among)
             | inr found ↦ link_found lab.links 0 l a b found
           ]
     ] where

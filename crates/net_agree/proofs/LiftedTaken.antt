@@ -10,7 +10,7 @@ use Rattle.or_base.specs.TurnDone.{TurnDone}
 use Rattle.or_actor.specs.Steps.{TurnMade, turn_done}
 use Rattle.kv_store.specs.Store.{StoreState, store_step}
 use Rattle.kv_agree.specs.Traced.{TracedStore, new_traced, traced_step, traced_after}
-use Rattle.net_record.specs.declared.kinds.AnyModule.TheVariants.{Store, Link}
+use Rattle.net_record.specs.declared.kinds.AnyModule.TheVariants.{Spark, Store, Link}
 use Rattle.net_record.specs.declared.part.Part.{Part}
 use Rattle.net_record.specs.declared.part.Part.TheVariants.{Driver, Desk, Module}
 use Rattle.net_record.specs.declared.actor.ActorState.{ActorState}
@@ -43,6 +43,7 @@ part_store : (part : Part) (lane : ℕ) (item : Item) (at : ℕ) (s : StoreState
 unfolding part_step module_step
 part_store Driver lane item at s e = cc
 part_store (Desk d) lane item at s e = cc
+part_store (Module (Spark p)) lane item at s e = cc
 part_store (Module (Store before)) lane item at s e = (before, refl, sym (some_is e))
 part_store (Module (Link l)) lane item at s e = cc
 

@@ -19,9 +19,10 @@ use Rattle.net_laboratory.specs.Scenario.{Laboratory}
 use Rattle.net_laboratory.specs.Sound.{is_sound}
 use Rattle.net_link.specs.Link.{LinkState}
 use Rattle.net_record.specs.declared.role.NodeModule.TheVariants.{Store as StoreRole}
+use Rattle.net_record.specs.declared.role.NodeSetup.{NodeSetup}
 use Rattle.net_record.specs.declared.role.Role.{Role}
 use Rattle.net_record.specs.declared.role.Role.TheVariants.{Driver as DriverRole, Node, Link as LinkRole}
-use Rattle.net_record.specs.declared.kinds.AnyModule.TheVariants.{Store, Link}
+use Rattle.net_record.specs.declared.kinds.AnyModule.TheVariants.{Spark, Store, Link}
 use Rattle.net_record.specs.declared.part.Part.{Part}
 use Rattle.net_record.specs.declared.part.Part.TheVariants.{Driver, Desk, Module}
 use Rattle.net_record.specs.declared.actor.ActorState.{ActorState}
@@ -32,20 +33,23 @@ use Rattle.net_agree.specs.Routed.{IsOf, IsStoreAt, AreEnds, MayWaitFor, IsRoute
 use Rattle.net_agree.specs.Lifted.{link_of, trace_at, on_way, IsLifted}
 use Rattle.net_agree.proofs.LiftedLists.{some_is}
 use Rattle.net_agree.proofs.LiftedRoles.{one_place, ends_turned, one_peer, ends_differ}
+use Rattle.net_agree.proofs.LiftedSparks.{IsLess, of_stores, kept_is, keeps, fewer_of_stores}
 use Rattle.net_agree.proofs.LiftedWay.{IsSentBy, NamesLink, way_waiting, way_after}
 use Rattle.net_agree.proofs.LiftedTaken.{same_store, HadTurn, HadNone, IsAfterTurn, after_turn}
 
 -- ---- who is where
 
-store_role : (part : Part) (role : Role) (s : StoreState) → store_of part ≡ Some s → IsOf part role → (store : ℕ) × (role ≡ Node StoreRole s.me store)
+store_role : (part : Part) (role : Role) (s : StoreState) → store_of part ≡ Some s → IsOf part role → (setup : NodeSetup) × (role ≡ Node StoreRole s.me setup)
 store_role Driver role s e of_role = cc
 store_role (Desk d) role s e of_role = cc
+store_role (Module (Spark p)) role s e of_role = cc
 store_role (Module (Store t)) role s e of_role = (of_role.0, of_role.1 ∙ ap (λ (u : StoreState). Node StoreRole u.me of_role.0) (some_is e))
 store_role (Module (Link l)) role s e of_role = cc
 
 pub link_role_of : (part : Part) (role : Role) (l : LinkState) → link_of part ≡ Some l → IsOf part role → role ≡ LinkRole l.link l.a l.b
 link_role_of Driver role l e of_role = cc
 link_role_of (Desk d) role l e of_role = cc
+link_role_of (Module (Spark p)) role l e of_role = cc
 link_role_of (Module (Store t)) role l e of_role = cc
 link_role_of (Module (Link k)) role l e of_role = of_role ∙ ap (λ (u : LinkState). LinkRole u.link u.a u.b) (some_is e)
 
@@ -58,7 +62,7 @@ role_there all w number actor routed there =
     let is : slice_get all number ≡ Some role = slice_get-get_or all number DriverRole (omega (arith, within, routed.actors)) in
     (role, is, routed.parts number actor role there is)
 
-store_there : (all : List Role) (w : WorldState) (number : ℕ) (s : StoreState) → IsRouted all w → IsStoreAt w number s → (store : ℕ) × (slice_get all number ≡ Some (Node StoreRole s.me store))
+store_there : (all : List Role) (w : WorldState) (number : ℕ) (s : StoreState) → IsRouted all w → IsStoreAt w number s → (setup : NodeSetup) × (slice_get all number ≡ Some (Node StoreRole s.me setup))
 store_there all w number s routed x =
     let has = role_there all w number x.actor routed x.there in
     let is = store_role x.actor.part has.0 s x.is has.2 in
@@ -100,18 +104,19 @@ module _ (lab : Laboratory) (sound : is_sound lab ≡ true) (stays : StaysPaired
   sender : (link : ℕ) (node : List ℕ) (msg : Msg) (by : IsSentBy actor.part item link node msg) → IsStoreAt w reader by.store
   sender link node msg by = record { actor = actor; there = there; is = by.is }
 
-  -- what is on its way of a store that had no turn was so before
-  nothing_new : (link number : ℕ) (t : StoreState) → IsStoreAt w number t → (reader ≡ number → ⊥) → (msg : Msg) → Contains (on_way now link t.me) msg → Contains (on_way w link t.me) msg
-  nothing_new link number t y other msg h =
-      elim (way_after w reader others actor m waits there names link t.me msg h) [
+  -- what a store that had no turn has on its way was so before
+  nothing_new : (link number : ℕ) (t : StoreState) → IsStoreAt w number t → (reader ≡ number → ⊥) → IsLess (on_way now link t.me) (on_way w link t.me)
+  nothing_new link number t y other msg stores h =
+      elim (way_after w reader others actor m waits there names link t.me msg stores h) [
         | inl before ↦ before
         | inr by ↦ absurd (other (one_actor lab w reader number by.store t sound routed (sender link t.me msg by) y by.me))
       ]
 
-  -- what is on its way of the store that had the turn it sent, or was so before
-  comes_of : (link : ℕ) (s : StoreState) → IsStoreAt w reader s → ComesOf (on_way w link s.me) (on_way now link s.me) s.me link (store_step s item).1
+  -- what the store that had the turn has on its way it sent, or it was so before
+  comes_of : (link : ℕ) (s : StoreState) → IsStoreAt w reader s → ComesOf (on_way w link s.me) (of_stores (on_way now link s.me)) s.me link (store_step s item).1
   comes_of link s x msg h =
-      elim (way_after w reader others actor m waits there names link s.me msg h) [
+      let kept = kept_is (on_way now link s.me) msg h in
+      elim (way_after w reader others actor m waits there names link s.me msg kept.1 kept.0) [
         | inl before ↦ inl before
         | inr by ↦
             let same : by.store ≡ s = same_store w reader by.store s (sender link s.me msg by) x in
@@ -127,26 +132,26 @@ module _ (lab : Laboratory) (sound : is_sound lab ≡ true) (stays : StaysPaired
       → IsPaired link a b (on_way w link s.me) (on_way w link t.me) → IsPaired link (traced_step a item) b (on_way now link s.me) (on_way now link t.me)
   starter_turn link y s t now_s a b is x at_y other ends stepped x_now paired =
       let back = on_way w link t.me in
-      let after = on_way now link s.me in
+      let after = of_stores (on_way now link s.me) in
       let brought = is_brought link s t.me x (ends_turned (roles lab) link s.me t.me ends) in
       let in_order = subst (λ (u : StoreState). IsNotBefore u.moment item) (sym is) (in_time s x) in
       let comes = subst (λ (u : StoreState). ComesOf (on_way w link s.me) after u.me link (store_step u item).1) (sym is) (comes_of link s x) in
       let small : (store_step a.store item).0.sessions.last < 2 ^ 64 - 1 =
       subst (λ (u : StoreState). (store_step u item).0.sessions.last < 2 ^ 64 - 1) (sym is) (subst (λ (u : StoreState). u.sessions.last < 2 ^ 64 - 1) stepped (few reader now_s x_now)) in
       let taken = stays.starter link a b (on_way w link s.me) back after item brought in_order comes small paired in
-      stays.fewer link (traced_step a item) b after back after (on_way now link t.me) (λ msg h. h) (nothing_new link y t at_y other) taken
+      fewer_of_stores link (traced_step a item) b after back (on_way now link s.me) (on_way now link t.me) (keeps (on_way now link s.me)) (nothing_new link y t at_y other) taken
 
   -- the peer had it
   peer_turn : (link x : ℕ) (s t : StoreState) (a b : TracedStore) → b.store ≡ t → IsStoreAt w x s → IsStoreAt w reader t → (reader ≡ x → ⊥) → AreEnds (roles lab) link s.me t.me
       → IsPaired link a b (on_way w link s.me) (on_way w link t.me) → IsPaired link a (traced_step b item) (on_way now link s.me) (on_way now link t.me)
   peer_turn link x s t a b is at_x y other ends paired =
       let out = on_way w link s.me in
-      let after = on_way now link t.me in
+      let after = of_stores (on_way now link t.me) in
       let brought = is_brought link t s.me y ends in
       let in_order = subst (λ (u : StoreState). IsNotBefore u.moment item) (sym is) (in_time t y) in
       let comes = subst (λ (u : StoreState). ComesOf (on_way w link t.me) after u.me link (store_step u item).1) (sym is) (comes_of link t y) in
       let taken = stays.peer link a b out (on_way w link t.me) after item brought in_order comes paired in
-      stays.fewer link a (traced_step b item) out after (on_way now link s.me) after (nothing_new link x s at_x other) (λ msg h. h) taken
+      fewer_of_stores link a (traced_step b item) out after (on_way now link s.me) (on_way now link t.me) (nothing_new link x s at_x other) (keeps (on_way now link t.me)) taken
 
   abbrev After : ℕ → StoreState → Type 0
   After number s = IsAfterTurn w reader others actor m there reads number s
@@ -203,7 +208,7 @@ module _ (lab : Laboratory) (sound : is_sound lab ≡ true) (stays : StaysPaired
         (peer_turn link x u v a b (lifted.traced y v after_y.was) after_x.was (at_reader y v had.here after_y.was) none.elsewhere ends was)
     paired_after (inr none_x) (inr none_y) =
         both a b none_x.traced none_y.traced
-        (stays.fewer link a b (on_way w link u.me) (on_way w link v.me) (on_way now link u.me) (on_way now link v.me)
+        (fewer_of_stores link a b (on_way w link u.me) (on_way w link v.me) (on_way now link u.me) (on_way now link v.me)
         (nothing_new link x u after_x.was none_x.elsewhere) (nothing_new link y v after_y.was none_y.elsewhere) was)
 
   pub lifted_turn : IsLifted now lab

@@ -1,10 +1,10 @@
--- What is on its way over a link after a turn was so before, or the store that had the turn sent it.
+-- What stores have on its way over a link after a turn was so before, or the store that had the turn sent it.
 use Rattle.std.proofs.Common.{◌≡◌, ℕ, ◌+◌, List, [], ◌∷◌, ◌++◌, Option, Some, None, Bool, true, false, ◌&&◌, ◌==◌, if◌then◌else◌, get_or, set, ◌⊎◌, inl, inr, refl, sym, ap, ◌∙◌, subst, arith}
 use Rattle.std.specs.Prelude.{slice_get}
 use Rattle.std.specs.Str.{bytes_eq}
 use Rattle.std.specs.Option.{option_map_or}
 use Rattle.std.specs.List.{Contains, flat_map}
-use Rattle.std.proofs.lemmas.Bool.{and_parts, and_from, eq-eqb, eqb-true}
+use Rattle.std.proofs.lemmas.Bool.{and_parts, and_from, eq-eqb, eqb-true, false≢true}
 use Rattle.std.proofs.lemmas.List.Elements.{Contains-append_cases, Contains-append_left, Contains-append_right}
 use Rattle.std.proofs.lemmas.Slice.Eq.{bytes_eq-Decides}
 use Rattle.or_base.specs.declared.item.Item.{Item}
@@ -22,7 +22,7 @@ use Rattle.kv_agree.proofs.Lists.{contains_at}
 use Rattle.net_link.specs.Link.{LinkState, link_step}
 use Rattle.net_link.specs.Flow.{held_of, WasThere}
 use Rattle.net_link.proofs.Flow.{links_make_nothing_up}
-use Rattle.net_record.specs.declared.kinds.AnyModule.TheVariants.{Store, Link}
+use Rattle.net_record.specs.declared.kinds.AnyModule.TheVariants.{Spark, Store, Link}
 use Rattle.net_record.specs.declared.part.Part.{Part}
 use Rattle.net_record.specs.declared.part.Part.TheVariants.{Driver, Desk, Module}
 use Rattle.net_record.specs.declared.actor.ActorState.{ActorState}
@@ -34,6 +34,7 @@ use Rattle.net_record.specs.World.{WorldState, waiting, put, deliver, turn_of}
 use Rattle.net_agree.specs.Lifted.{message_if, messages_in, link_of, held_on, on_way}
 use Rattle.net_agree.proofs.LiftedLists.{set_gives, gives_at, gives_or, gives_both}
 use Rattle.net_agree.proofs.LiftedSends.{sent_own}
+use Rattle.net_agree.proofs.Sparks.{is_of_spark, sent_by_spark}
 
 -- ---- the message of an item
 
@@ -139,6 +140,7 @@ part_holds : (part : Part) (lane : ℕ) (item : Item) (at link : ℕ) (node : Li
 unfolding part_step module_step
 part_holds Driver lane item at link node msg h = absurd (omega (arith, h.1))
 part_holds (Desk d) lane item at link node msg h = absurd (omega (arith, h.1))
+part_holds (Module (Spark s)) lane item at link node msg h = absurd (omega (arith, h.1))
 part_holds (Module (Store s)) lane item at link node msg h = absurd (omega (arith, h.1))
 part_holds (Module (Link s)) lane item at link node msg h =
     let after = (link_step s item).0 in
@@ -146,15 +148,16 @@ part_holds (Module (Link s)) lane item at link node msg h =
     let law = links_make_nothing_up s item in
     record { state = s; is = refl; number = sym law.link ∙ eqb-true after.link link held.0; was = law.held node msg held.1 }
 
-part_sends : (part : Part) (lane : ℕ) (item : Item) (at port link : ℕ) (node : List ℕ) (msg : Msg) → Contains (part_step part lane item at).1 (To port (Net link node msg))
+part_sends : (part : Part) (lane : ℕ) (item : Item) (at port link : ℕ) (node : List ℕ) (msg : Msg) → is_of_spark msg ≡ false → Contains (part_step part lane item at).1 (To port (Net link node msg))
     → IsSentBy part item link node msg ⊎ IsOfLink part item link node msg
 unfolding part_step module_step
-part_sends Driver lane item at port link node msg h = absurd (omega (arith, h.1))
-part_sends (Desk d) lane item at port link node msg h = absurd (omega (arith, h.1))
-part_sends (Module (Store s)) lane item at port link node msg h =
+part_sends Driver lane item at port link node msg stores h = absurd (omega (arith, h.1))
+part_sends (Desk d) lane item at port link node msg stores h = absurd (omega (arith, h.1))
+part_sends (Module (Spark s)) lane item at port link node msg stores h = absurd (false≢true (sym stores ∙ sent_by_spark s item port link node msg h))
+part_sends (Module (Store s)) lane item at port link node msg stores h =
     let own = sent_own s item port link node msg h in
     inl (record { store = s; is = refl; me = sym own.0; sent = subst (λ p. Contains (store_step s item).1 (To p (Net link node msg))) own.1 h })
-part_sends (Module (Link s)) lane item at port link node msg h =
+part_sends (Module (Link s)) lane item at port link node msg stores h =
     let law = (links_make_nothing_up s item).sent port link node msg h in
     inr (record { state = s; is = refl; number = sym law.0; was = law.2 })
 
@@ -165,7 +168,7 @@ abbrev pub NamesLink : Part → Item → Type 0
 NamesLink part item = (state : LinkState) → link_of part ≡ Some state → (l : ℕ) (from : List ℕ) (msg : Msg) → item ≡ Net l from msg → l ≡ state.link
 
 module _ (w : WorldState) (reader : ℕ) (others : List Stamped) (actor : ActorState) (m : TurnMade) (waits : waiting w m.lane ≡ m.taken ∷ others)
-    (there : slice_get w.actors reader ≡ Some actor) (names : NamesLink actor.part m.taken.item) (link : ℕ) (node : List ℕ) (msg : Msg) where
+    (there : slice_get w.actors reader ≡ Some actor) (names : NamesLink actor.part m.taken.item) (link : ℕ) (node : List ℕ) (msg : Msg) (stores : is_of_spark msg ≡ false) where
   abbrev held_by : ActorState → List Msg
   held_by a = option_map_or (held_on link node) (link_of a.part) []
 
@@ -188,7 +191,7 @@ module _ (w : WorldState) (reader : ℕ) (others : List Stamped) (actor : ActorS
       let all : Contains (messages_in link node (m.taken ∷ others)) msg = Contains-append_right (brought_by link node m.taken) (messages_in link node others) msg h in
       on_lanes (gives_or (messages_in link node) [] w.lanes m.lane msg refl (subst (λ ss. Contains (messages_in link node ss) msg) (sym waits) all))
 
-  -- What is on its way after a turn was so before, or a store of the node sent it in this turn.
+  -- What stores have on its way after a turn was so before, or a store of the node sent it in this turn.
   pub way_after : Contains (on_way (turn_of w reader others actor m) link node) msg → Contains (on_way w link node) msg ⊎ IsSentBy actor.part m.taken.item link node msg
   unfolding turn_of actor_after outputs_of
   way_after h =
@@ -197,7 +200,7 @@ module _ (w : WorldState) (reader : ℕ) (others : List Stamped) (actor : ActorS
         | inl lanes ↦
             elim (deliver_gives link node w.wires reader m.stamp (set w.lanes m.lane others) (outputs_of actor m) msg lanes) [
               | inl was ↦ elim (set_gives (messages_in link node) w.lanes m.lane others msg was) [ inl before ↦ inl (on_lanes before) | inr rest ↦ inl (left rest) ]
-              | inr sent ↦ elim (part_sends actor.part m.lane m.taken.item m.at sent.port link node msg sent.among) [ inl by_store ↦ inr by_store | inr by_link ↦ inl (of_link by_link) ]
+              | inr sent ↦ elim (part_sends actor.part m.lane m.taken.item m.at sent.port link node msg stores sent.among) [ inl by_store ↦ inr by_store | inr by_link ↦ inl (of_link by_link) ]
             ]
         | inr held ↦
             elim (set_gives held_by w.actors reader (actor_after actor m) msg held) [

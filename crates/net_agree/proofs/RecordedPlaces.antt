@@ -12,17 +12,18 @@ use Rattle.net_laboratory.specs.declared.declared.NodeDecl.{NodeDecl}
 use Rattle.net_laboratory.specs.declared.declared.LinkDecl.{LinkDecl}
 use Rattle.net_laboratory.specs.Scenario.{Laboratory}
 use Rattle.net_record.specs.declared.role.NodeModule.{NodeModule}
-use Rattle.net_record.specs.declared.role.NodeModule.TheVariants.{Store as StoreRole, Desk as DeskRole}
+use Rattle.net_record.specs.declared.role.NodeModule.TheVariants.{Spark as SparkRole, Store as StoreRole, Desk as DeskRole}
+use Rattle.net_record.specs.declared.role.NodeSetup.{NodeSetup}
 use Rattle.net_record.specs.declared.role.Role.{Role}
 use Rattle.net_record.specs.declared.role.Role.TheVariants.{Driver as DriverRole, Node, Link as LinkRole}
-use Rattle.net_record.specs.declared.kinds.AnyModule.TheVariants.{Store, Link}
+use Rattle.net_record.specs.declared.kinds.AnyModule.TheVariants.{Spark, Store, Link}
 use Rattle.net_record.specs.declared.part.Part.{Part}
 use Rattle.net_record.specs.declared.part.Part.TheVariants.{Driver, Desk, Module}
 use Rattle.net_record.specs.declared.actor.ActorState.{ActorState}
 use Rattle.net_record.specs.Roles.{modules_of, is_same_module, first_place, store_number, node_roles, link_role, roles}
 use Rattle.net_record.specs.Actors.{actor_at, no_actor, store_of}
 use Rattle.net_record.specs.World.{WorldState}
-use Rattle.net_record.proofs.Places.{how_many}
+use Rattle.net_record.proofs.Places.{how_many, setup_at}
 use Rattle.net_record.proofs.Tellers.{Teller, tellers_by, tellers_of, teller_at, no_teller}
 use Rattle.net_agree.specs.Routed.{IsOf, IsRouted}
 
@@ -69,8 +70,9 @@ map_same {X = X} f g first (x ∷ xs) same = rw (here, map_same f g (first + 1) 
 -- what the store of a node gives, by the node's name and its own number
 abbrev by_role : {A : Type 0} → (List ℕ → ℕ → A) → ℕ × Role → List A
 by_role gives (number, DriverRole) = []
-by_role gives (number, Node StoreRole name store) = gives name number ∷ []
-by_role gives (number, Node DeskRole name store) = []
+by_role gives (number, Node SparkRole name setup) = []
+by_role gives (number, Node StoreRole name setup) = gives name number ∷ []
+by_role gives (number, Node DeskRole name setup) = []
 by_role gives (number, LinkRole link a b) = []
 
 links_give_none : {A : Type 0} (gives : List ℕ → ℕ → A) (number first : ℕ) (links : List LinkDecl) → flat_map (by_role gives) (enumerate_from number (map link_role (enumerate_from first links))) ≡ []
@@ -78,56 +80,56 @@ links_give_none gives number first [] = refl
 links_give_none gives number first (link ∷ links) = links_give_none gives (number + 1) (first + 1) links
 
 -- the modules of a node, and behind them these roles
-abbrev node_then : List NodeModule → List ℕ → ℕ → List Role → List Role
-node_then modules name store others = map (λ m. Node m name store) modules ++ others
+abbrev node_then : List NodeModule → List ℕ → NodeSetup → List Role → List Role
+node_then modules name setup others = map (λ m. Node m name setup) modules ++ others
 
 abbrev many_stores : List NodeModule → ℕ
 many_stores modules = how_many (map (is_same_module StoreRole) modules)
 
 -- modules of which none is a store give nothing
-others_give_none : {A : Type 0} (gives : List ℕ → ℕ → A) (number : ℕ) (modules : List NodeModule) (name : List ℕ) (store : ℕ) (others : List Role) → many_stores modules ≡ 0
-    → flat_map (by_role gives) (enumerate_from number (node_then modules name store others)) ≡ flat_map (by_role gives) (enumerate_from (number + length modules) others)
-others_give_none gives number [] name store others none =
+others_give_none : {A : Type 0} (gives : List ℕ → ℕ → A) (number : ℕ) (modules : List NodeModule) (name : List ℕ) (setup : NodeSetup) (others : List Role) → many_stores modules ≡ 0
+    → flat_map (by_role gives) (enumerate_from number (node_then modules name setup others)) ≡ flat_map (by_role gives) (enumerate_from (number + length modules) others)
+others_give_none gives number [] name setup others none =
     let here : number ≡ number + 0 = omega arith in
     ap (λ n. flat_map (by_role gives) (enumerate_from n others)) here
-others_give_none gives number (StoreRole ∷ modules) name store others none = absurd (omega (arith, none))
-others_give_none gives number (_ ∷ modules) name store others none =
+others_give_none gives number (StoreRole ∷ modules) name setup others none = absurd (omega (arith, none))
+others_give_none gives number (_ ∷ modules) name setup others none =
     let next : number + 1 + length modules ≡ number + suc (length modules) = omega arith in
-    others_give_none gives (number + 1) modules name store others none ∙ ap (λ n. flat_map (by_role gives) (enumerate_from n others)) next
+    others_give_none gives (number + 1) modules name setup others none ∙ ap (λ n. flat_map (by_role gives) (enumerate_from n others)) next
 
 -- those of which one is a store give what that store gives
-node_gives : {A : Type 0} (gives : List ℕ → ℕ → A) (number : ℕ) (modules : List NodeModule) (name : List ℕ) (store : ℕ) (others : List Role) → many_stores modules ≡ 1
-    → flat_map (by_role gives) (enumerate_from number (node_then modules name store others))
+node_gives : {A : Type 0} (gives : List ℕ → ℕ → A) (number : ℕ) (modules : List NodeModule) (name : List ℕ) (setup : NodeSetup) (others : List Role) → many_stores modules ≡ 1
+    → flat_map (by_role gives) (enumerate_from number (node_then modules name setup others))
     ≡ gives name (number + first_place (is_same_module StoreRole) modules) ∷ flat_map (by_role gives) (enumerate_from (number + length modules) others)
-node_gives gives number [] name store others one = absurd (omega (arith, one))
-node_gives gives number (StoreRole ∷ modules) name store others one =
+node_gives gives number [] name setup others one = absurd (omega (arith, one))
+node_gives gives number (StoreRole ∷ modules) name setup others one =
     let here : number ≡ number + 0 = omega arith in
     let next : number + 1 + length modules ≡ number + suc (length modules) = omega arith in
     let none : many_stores modules ≡ 0 = omega (arith, one) in
-    ap (λ gs. gives name number ∷ gs) (others_give_none gives (number + 1) modules name store others none ∙ ap (λ n. flat_map (by_role gives) (enumerate_from n others)) next)
+    ap (λ gs. gives name number ∷ gs) (others_give_none gives (number + 1) modules name setup others none ∙ ap (λ n. flat_map (by_role gives) (enumerate_from n others)) next)
     ∙ ap (λ n. gives name n ∷ flat_map (by_role gives) (enumerate_from (number + suc (length modules)) others)) here
-node_gives gives number (_ ∷ modules) name store others one =
+node_gives gives number (_ ∷ modules) name setup others one =
     let place = first_place (is_same_module StoreRole) modules in
     let here : number + 1 + place ≡ number + (1 + place) = omega arith in
     let next : number + 1 + length modules ≡ number + suc (length modules) = omega arith in
-    node_gives gives (number + 1) modules name store others one
+    node_gives gives (number + 1) modules name setup others one
     ∙ ap (λ n. gives name n ∷ flat_map (by_role gives) (enumerate_from (number + 1 + length modules) others)) here
     ∙ ap (λ n. gives name (number + (1 + place)) ∷ flat_map (by_role gives) (enumerate_from n others)) next
 
-nodes_give : {A : Type 0} (gives : List ℕ → ℕ → A) (modules : List NodeModule) (number place : ℕ) (nodes : List NodeDecl) (links : List LinkDecl) → many_stores modules ≡ 1
+nodes_give : {A : Type 0} (gives : List ℕ → ℕ → A) (modules : List NodeModule) (ends : List LinkDecl) (number place : ℕ) (nodes : List NodeDecl) (links : List LinkDecl) → many_stores modules ≡ 1
     → number ≡ 1 + place * length modules
-    → flat_map (by_role gives) (enumerate_from number (flat_map (node_roles modules) (enumerate_from place nodes) ++ map link_role (enumerate_from 0 links)))
+    → flat_map (by_role gives) (enumerate_from number (flat_map (node_roles modules ends) (enumerate_from place nodes) ++ map link_role (enumerate_from 0 links)))
     ≡ map (λ (node : ℕ × NodeDecl). gives node.1.name (store_number modules node.0)) (enumerate_from place nodes)
-nodes_give gives modules number place [] links one is = links_give_none gives number 0 links
-nodes_give gives modules number place (node ∷ nodes) links one is =
-    let later = flat_map (node_roles modules) (enumerate_from (place + 1) nodes) in
+nodes_give gives modules ends number place [] links one is = links_give_none gives number 0 links
+nodes_give gives modules ends number place (node ∷ nodes) links one is =
+    let later = flat_map (node_roles modules ends) (enumerate_from (place + 1) nodes) in
     let others = map link_role (enumerate_from 0 links) in
     let here : number + first_place (is_same_module StoreRole) modules ≡ store_number modules place = omega (arith, is) in
     let next : number + length modules ≡ 1 + (place + 1) * length modules = omega (arith, is, add-mul place 1 (length modules)) in
-    ap (λ all. flat_map (by_role gives) (enumerate_from number all)) (append_assoc (node_roles modules (place, node)) later others)
-    ∙ node_gives gives number modules node.name (store_number modules place) (later ++ others) one
+    ap (λ all. flat_map (by_role gives) (enumerate_from number all)) (append_assoc (node_roles modules ends (place, node)) later others)
+    ∙ node_gives gives number modules node.name (setup_at modules ends place node) (later ++ others) one
     ∙ ap (λ n. gives node.name n ∷ flat_map (by_role gives) (enumerate_from (number + length modules) (later ++ others))) here
-    ∙ ap (λ gs. gives node.name (store_number modules place) ∷ gs) (nodes_give gives modules (number + length modules) (place + 1) nodes links one next)
+    ∙ ap (λ gs. gives node.name (store_number modules place) ∷ gs) (nodes_give gives modules ends (number + length modules) (place + 1) nodes links one next)
 
 one_store : (kind : Kind) → many_stores (modules_of kind) ≡ 1
 one_store Stores = refl
@@ -136,7 +138,7 @@ one_store Full = refl
 roles_give : {A : Type 0} (gives : List ℕ → ℕ → A) (lab : Laboratory)
     → flat_map (by_role gives) (enumerate_from 0 (roles lab))
     ≡ map (λ (node : ℕ × NodeDecl). gives node.1.name (store_number (modules_of lab.kind) node.0)) (enumerate_from 0 lab.nodes)
-roles_give gives lab = nodes_give gives (modules_of lab.kind) (0 + 1) 0 lab.nodes lab.links (one_store lab.kind) (omega arith)
+roles_give gives lab = nodes_give gives (modules_of lab.kind) lab.links (0 + 1) 0 lab.nodes lab.links (one_store lab.kind) (omega arith)
 
 -- ---- stores among actors
 
@@ -148,7 +150,8 @@ part_gives : {A : Type 0} (gives : List ℕ → ℕ → ActorState → StoreStat
     → option_to_list (option_map (λ (s : StoreState). gives s.me number actor s) (store_of part))
     ≡ by_role (λ name n. gives name n actor (unwrap_or (store_of part) (new_store Stores []))) (number, role)
 part_gives gives number actor Driver role is = rw is refl
-part_gives gives number actor (Desk d) role is = rw is refl
+part_gives gives number actor (Desk d) role is = rw is.1 refl
+part_gives gives number actor (Module (Spark s)) role is = rw is.1 refl
 part_gives gives number actor (Module (Store s)) role is = rw is.1 refl
 part_gives gives number actor (Module (Link s)) role is = rw is refl
 
@@ -157,9 +160,10 @@ by_role_read : {A : Type 0} (gives : List ℕ → ℕ → ActorState → StoreSt
     → by_role (λ name n. gives name n actor (unwrap_or (store_of actor.part) (new_store Stores []))) (number, role)
     ≡ by_role (λ name n. gives name n (found n) (unwrap_or (store_of (found n).part) (new_store Stores []))) (number, role)
 by_role_read gives number actor found DriverRole here = refl
-by_role_read gives number actor found (Node StoreRole name store) here =
+by_role_read gives number actor found (Node SparkRole name setup) here = refl
+by_role_read gives number actor found (Node StoreRole name setup) here =
     ap (λ (a : ActorState). gives name number a (unwrap_or (store_of a.part) (new_store Stores [])) ∷ []) (sym here)
-by_role_read gives number actor found (Node DeskRole name store) here = refl
+by_role_read gives number actor found (Node DeskRole name setup) here = refl
 by_role_read gives number actor found (LinkRole link a b) here = refl
 
 -- what all stores in a world give, in the order of nodes

@@ -8,12 +8,13 @@ use Rattle.or_base.specs.declared.item.Item.{Item}
 use Rattle.or_base.specs.declared.kind.Kind.TheVariants.{Stores}
 use Rattle.or_base.proofs.Members.{Contains-first, Contains-later}
 use Rattle.kv_store.specs.Store.{StoreState, store_step, new_store}
+use Rattle.spark_node.specs.Spark.{spark_step}
 use Rattle.net_link.specs.Link.{link_step}
 use Rattle.net_link.proofs.Flow.{links_make_nothing_up}
-use Rattle.net_record.specs.declared.role.NodeModule.TheVariants.{Store as StoreRole, Desk as DeskRole}
+use Rattle.net_record.specs.declared.role.NodeModule.TheVariants.{Spark as SparkRole, Store as StoreRole, Desk as DeskRole}
 use Rattle.net_record.specs.declared.role.Role.{Role}
 use Rattle.net_record.specs.declared.role.Role.TheVariants.{Driver as DriverRole, Node, Link as LinkRole}
-use Rattle.net_record.specs.declared.kinds.AnyModule.TheVariants.{Store, Link}
+use Rattle.net_record.specs.declared.kinds.AnyModule.TheVariants.{Spark, Store, Link}
 use Rattle.net_record.specs.declared.part.Part.{Part}
 use Rattle.net_record.specs.declared.part.Part.TheVariants.{Driver, Desk, Module}
 use Rattle.net_record.specs.declared.actor.ActorState.{ActorState}
@@ -60,14 +61,16 @@ knows_to all me s same k =
     record { peers = own.peers; running = own.running; done = own.done }
 
 fit_desk : (d e : DeskState) (role : Role) → node_and_store e ≡ node_and_store d → IsOf (Desk d) role → IsOf (Desk e) role
-fit_desk d e role same is = is ∙ ap (λ (p : List ℕ × ℕ). Node DeskRole p.0 p.1) (sym same)
+fit_desk d e role same is =
+    (is.0, is.1 ∙ ap (λ (p : List ℕ × ℕ). Node DeskRole p.0 is.0) (sym same), is.2 ∙ ap (λ (p : List ℕ × ℕ). p.1) (sym same))
 
 -- an actor stays fit in its turn
 pub turn_fit : (all : List Role) (part : Part) (role : Role) (lane : ℕ) (item : Item) (at : ℕ) → IsFit all part role → MayWaitFor all role item → IsFit all (part_step part lane item at).0 role
-unfolding part_step module_step desk_after
+unfolding part_step module_step desk_after spark_step
 turn_fit all Driver role lane item at f may = f
 turn_fit all (Desk d) role lane item at f may =
     fit_no_store all (Desk (with_question d (key_asked item) at)) role (fit_desk d (with_question d (key_asked item) at) role (node_and_store-question d (key_asked item) at) f.is) refl
+turn_fit all (Module (Spark s)) role lane item at f may = fit_no_store all (Module (Spark (spark_step s item).0)) role f.is refl
 turn_fit all (Module (Store s)) role lane item at f may =
     let after = (store_step s item).0 in
     let own : Knows (λ link peer. AreEnds all link peer s.me) after =
@@ -81,9 +84,10 @@ turn_fit all (Module (Link s)) role lane item at f may =
 
 new_fit : (all : List Role) (role : Role) → IsFit all (new_part role) role
 new_fit all DriverRole = fit_no_store all Driver DriverRole refl refl
-new_fit all (Node StoreRole node store) =
-    fit_store all (new_store Stores node) (Node StoreRole node store) (store, refl) (record { peers = tt; running = tt; done = tt })
-new_fit all (Node DeskRole node store) = fit_no_store all (new_part (Node DeskRole node store)) (Node DeskRole node store) refl refl
+new_fit all (Node SparkRole node setup) = fit_no_store all (new_part (Node SparkRole node setup)) (Node SparkRole node setup) (setup, refl) refl
+new_fit all (Node StoreRole node setup) =
+    fit_store all (new_store Stores node) (Node StoreRole node setup) (setup, refl) (record { peers = tt; running = tt; done = tt })
+new_fit all (Node DeskRole node setup) = fit_no_store all (new_part (Node DeskRole node setup)) (Node DeskRole node setup) (setup, refl, refl) refl
 new_fit all (LinkRole link a b) = fit_no_store all (new_part (LinkRole link a b)) (LinkRole link a b) refl refl
 
 settled_fit : (all : List Role) (part : Part) (role : Role) (lengths : List ℕ) → IsFit all part role → IsFit all (part_after_settle lengths part) role

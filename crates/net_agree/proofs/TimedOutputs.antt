@@ -1,6 +1,6 @@
 -- No actor sends a tick, and a store's moment is that of the last tick that it took.
 use Rattle.std.proofs.Common.{◌≡◌, ℕ, List, [], ◌∷◌, ◌++◌, Option, Some, None, Bool, true, false, Result, Ok, Err, if◌then◌else◌, map, refl}
-use Rattle.std.specs.List.{flat_map}
+use Rattle.std.specs.List.{flat_map, AllByRecursion}
 use Rattle.or_base.specs.declared.entry.JournalEntry.{JournalEntry}
 use Rattle.or_base.specs.declared.value.Pair.{Pair}
 use Rattle.or_base.specs.declared.origin.Origin.TheVariants as origin
@@ -14,6 +14,8 @@ use Rattle.or_base.specs.declared.kind.Kind.TheVariants.{Stores, Full}
 use Rattle.or_base.specs.ByLink.{at_link}
 use Rattle.or_base.specs.Names.{is_among}
 use Rattle.or_actor.specs.declared.output.Output.{Output}
+use Rattle.or_actor.specs.declared.output.Output.TheVariants.{To}
+use Rattle.spark_node.specs.Spark.{spark_step}
 use Rattle.kv_sync.specs.declared.session.Session.{Session}
 use Rattle.kv_sync.specs.declared.session.Stale.{Stale}
 use Rattle.kv_sync.specs.declared.session.SyncPhase.TheVariants.{Dumped, Pushed}
@@ -23,15 +25,16 @@ use Rattle.kv_store.specs.declared.response.Response.TheVariants.{Nothing, Start
 use Rattle.kv_store.specs.Store.{StoreState, store_after_offers, store_after_reply, store_after_ack, message_change, item_change, store_after_item, message_on, start_with, start_on, start_each, push_on, respond, relay_to, floods_to, floods, entries_told, entries_since, store_step}
 use Rattle.net_link.specs.declared.end.End.{End}
 use Rattle.net_link.specs.declared.end.End.TheVariants.{A, B}
-use Rattle.net_link.specs.Link.{LinkState, direction_from, held_messages, forwards, message_to, carry_step, held_from, end_of, link_step}
+use Rattle.net_link.specs.Link.{LinkState, direction_from, held_messages, forwards, message_to, up_told, down_told, up_to, down_to, carry_step, held_from, end_of, link_step}
 use Rattle.net_link.specs.End.{other_end}
 use Rattle.net_record.specs.declared.kinds.AnyModule.{AnyModule}
-use Rattle.net_record.specs.declared.kinds.AnyModule.TheVariants.{Store, Link}
+use Rattle.net_record.specs.declared.kinds.AnyModule.TheVariants.{Spark, Store, Link}
 use Rattle.net_record.specs.declared.part.Part.{Part}
 use Rattle.net_record.specs.declared.part.Part.TheVariants.{Driver, Desk, Module}
 use Rattle.net_record.specs.Kinds.{module_step}
 use Rattle.net_record.specs.Actors.{part_step}
-use Rattle.net_agree.proofs.TimedTicks.{moment_past, SendNoTicks, none_sent_then}
+use Rattle.net_agree.proofs.Sparks.{IsSparkItem, IsOfSpark, spark_sends}
+use Rattle.net_agree.proofs.TimedTicks.{moment_past, tick_of, SendNoTicks, none_sent_then}
 
 -- ---- a store sends none
 
@@ -117,19 +120,38 @@ none_where : (test : Bool) (first other : LinkState × List Output) → SendNoTi
 none_where true first other h k = h
 none_where false first other h k = k
 
+up_is_none : (kind : Kind) (s : LinkState) (end : End) → SendNoTicks (up_told kind s end ∷ [])
+up_is_none Stores s end = (refl, tt)
+up_is_none Full s end = (refl, tt)
+
+down_is_none : (kind : Kind) (s : LinkState) (end : End) → SendNoTicks (down_told kind s end ∷ [])
+down_is_none Stores s end = (refl, tt)
+down_is_none Full s end = (refl, tt)
+
 link_sends_none : (s : LinkState) (item : Item) → SendNoTicks (link_step s item).1
 unfolding link_step
-link_sends_none s Up = none_where s.is_up _ _ tt (refl, (refl, tt))
-link_sends_none s Down = none_where s.is_up _ _ (refl, (refl, tt)) tt
+link_sends_none s Up = none_where s.is_up _ _ tt (none_sent_then (up_to s A ∷ []) (up_to s B ∷ []) (up_is_none s.kind s A) (up_is_none s.kind s B))
+link_sends_none s Down = none_where s.is_up _ _ (none_sent_then (down_to s A ∷ []) (down_to s B ∷ []) (down_is_none s.kind s A) (down_is_none s.kind s B)) tt
 link_sends_none s (Tick at) =
     none_sent_then (held_from s A) (held_from s B) (messages_are_none s (other_end A) (held_messages (direction_from s A))) (messages_are_none s (other_end B) (held_messages (direction_from s B)))
 link_sends_none s (Net link from message) = none_where s.is_up _ _ (carry_sends_none s (end_of s from) message) tt
 link_sends_none s _ = tt
 
+-- ---- a Spark sends none
+
+no_tick : (port : ℕ) (item : Item) → IsSparkItem port item → tick_of item ≡ None
+no_tick port (Tick at) own = absurd own
+no_tick port _ own = refl
+
+none_of_spark : (outputs : List Output) → AllByRecursion IsOfSpark outputs → SendNoTicks outputs
+none_of_spark [] own = tt
+none_of_spark (To port item ∷ outputs) own = (no_tick port item own.0, none_of_spark outputs own.1)
+
 -- ---- an actor sends none
 
 module_sends_none : (m : AnyModule) (lane : ℕ) (item : Item) → SendNoTicks (module_step m lane item).1
 unfolding module_step
+module_sends_none (Spark s) lane item = none_of_spark (spark_step s item).1 (spark_sends s item)
 module_sends_none (Store s) lane item = store_sends_none s item
 module_sends_none (Link s) lane item = link_sends_none s item
 

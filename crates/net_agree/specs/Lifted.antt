@@ -14,7 +14,7 @@ use Rattle.net_link.specs.Link.{LinkState}
 use Rattle.net_link.specs.Flow.{held_of}
 use Rattle.net_laboratory.specs.Scenario.{Laboratory}
 use Rattle.net_laboratory.specs.Sound.{is_sound}
-use Rattle.net_record.specs.declared.kinds.AnyModule.TheVariants.{Store, Link}
+use Rattle.net_record.specs.declared.kinds.AnyModule.TheVariants.{Spark, Store, Link}
 use Rattle.net_record.specs.declared.part.Part.{Part}
 use Rattle.net_record.specs.declared.part.Part.TheVariants.{Driver, Desk, Module}
 use Rattle.net_record.specs.declared.phase.Phase.{Phase}
@@ -52,6 +52,7 @@ messages_in link node items = flat_map (λ (s : Stamped). option_map_or (message
 abbrev pub link_of : Part → Option LinkState
 link_of Driver = None
 link_of (Desk d) = None
+link_of (Module (Spark s)) = None
 link_of (Module (Store s)) = None
 link_of (Module (Link s)) = Some s
 

@@ -9,10 +9,11 @@ use Rattle.or_base.specs.declared.session.SyncDone.{SyncDone}
 use Rattle.kv_sync.specs.declared.session.Session.{Session}
 use Rattle.kv_store.specs.Store.{StoreState}
 use Rattle.net_laboratory.specs.Scenario.{Laboratory}
-use Rattle.net_record.specs.declared.role.NodeModule.TheVariants.{Store as StoreRole, Desk as DeskRole}
+use Rattle.net_record.specs.declared.role.NodeModule.TheVariants.{Spark as SparkRole, Store as StoreRole, Desk as DeskRole}
+use Rattle.net_record.specs.declared.role.NodeSetup.{NodeSetup}
 use Rattle.net_record.specs.declared.role.Role.{Role}
 use Rattle.net_record.specs.declared.role.Role.TheVariants.{Driver as DriverRole, Node, Link as LinkRole}
-use Rattle.net_record.specs.declared.kinds.AnyModule.TheVariants.{Store, Link}
+use Rattle.net_record.specs.declared.kinds.AnyModule.TheVariants.{Spark, Store, Link}
 use Rattle.net_record.specs.declared.part.Part.{Part}
 use Rattle.net_record.specs.declared.part.Part.TheVariants.{Driver, Desk, Module}
 use Rattle.net_record.specs.declared.phase.Phase.{Phase}
@@ -29,8 +30,9 @@ use Rattle.net_record.specs.Reached.{IsReached}
 -- the actor with this role is this
 abbrev pub IsOf : Part → Role → Type 0
 IsOf Driver role = role ≡ DriverRole
-IsOf (Desk d) role = role ≡ Node DeskRole d.node d.store
-IsOf (Module (Store s)) role = (store : ℕ) × (role ≡ Node StoreRole s.me store)
+IsOf (Desk d) role = (setup : NodeSetup) × (role ≡ Node DeskRole d.node setup) × (setup.store ≡ d.store)
+IsOf (Module (Spark s)) role = (setup : NodeSetup) × (role ≡ Node SparkRole s.me setup)
+IsOf (Module (Store s)) role = (setup : NodeSetup) × (role ≡ Node StoreRole s.me setup)
 IsOf (Module (Link s)) role = role ≡ LinkRole s.link s.a s.b
 
 -- the actor with this number is this store
@@ -49,8 +51,8 @@ AreEnds all link node other = Contains all (LinkRole link node other) ⊎ Contai
 -- end; so does the news that a peer can be reached.
 pub record MayWaitFor (all : List Role) (role : Role) (item : Item) : Type 0 where
   pub at_link : (l : ℕ) (a b : List ℕ) → role ≡ LinkRole l a b → (link : ℕ) (from : List ℕ) (msg : Msg) → item ≡ Net link from msg → link ≡ l
-  pub from_peer : (node : List ℕ) (store : ℕ) → role ≡ Node StoreRole node store → (link : ℕ) (from : List ℕ) (msg : Msg) → item ≡ Net link from msg → AreEnds all link from node
-  pub of_peer : (node : List ℕ) (store : ℕ) → role ≡ Node StoreRole node store → (link : ℕ) (peer : List ℕ) → item ≡ PeerUp link peer → AreEnds all link peer node
+  pub from_peer : (node : List ℕ) (setup : NodeSetup) → role ≡ Node StoreRole node setup → (link : ℕ) (from : List ℕ) (msg : Msg) → item ≡ Net link from msg → AreEnds all link from node
+  pub of_peer : (node : List ℕ) (setup : NodeSetup) → role ≡ Node StoreRole node setup → (link : ℕ) (peer : List ℕ) → item ≡ PeerUp link peer → AreEnds all link peer node
 
 -- the peers of a store, and those of its full syncs, are at the other ends of their links
 pub record KnowsPeers (all : List Role) (s : StoreState) : Type 0 where

@@ -1,10 +1,14 @@
 -- The definitions on small cases.
-use Rattle.std.proofs.Common.{◌≡◌, ℕ, List, [], ◌∷◌, refl}
+use Rattle.std.proofs.Common.{◌≡◌, ℕ, List, [], ◌∷◌, Some, true, false, refl}
 use Rattle.or_base.specs.declared.act.Act.{Act}
 use Rattle.or_base.specs.declared.act.Act.TheVariants.{Pass, Drop, Twice, Late}
+use Rattle.or_base.specs.declared.item.Item.TheVariants.{Up, Down, Net, LinkUp, LinkDown, PeerUp}
+use Rattle.or_base.specs.declared.kind.Kind.{Kind}
+use Rattle.or_base.specs.declared.kind.Kind.TheVariants.{Stores, Full}
 use Rattle.or_base.specs.declared.message.Msg.{Msg}
-use Rattle.or_base.specs.declared.message.Msg.TheVariants.{Ack}
-use Rattle.net_link.specs.Link.{Direction, direction_after, forwards, held_messages}
+use Rattle.or_base.specs.declared.message.Msg.TheVariants.{Hello, Flood, Ack}
+use Rattle.or_actor.specs.declared.output.Output.TheVariants.{To}
+use Rattle.net_link.specs.Link.{Direction, LinkState, new_link, carry_step, link_step, direction_after, forwards, held_messages}
 
 -- a direction after messages with these numbers
 pub direction_from : Direction → List ℕ → Direction
@@ -41,3 +45,33 @@ forwards_each-dropped = refl
 pub held_messages-late : held_messages (direction_from (with_script (Late 3 ∷ Late 1 ∷ [])) (1 ∷ 2 ∷ [])) ≡ Ack 1 ∷ Ack 2 ∷ []
 unfolding direction_after direction_from
 held_messages-late = refl
+
+-- link 3 between the nodes named by the bytes 97 and 98, as it starts and once it is up
+abbrev pub down_link : Kind → LinkState
+down_link kind = new_link kind 3 (97 ∷ []) (98 ∷ [])
+
+abbrev pub up_link : Kind → LinkState
+up_link kind = record (down_link kind) { is_up = true }
+
+-- in a full laboratory both Sparks are told, among stores both stores
+pub link_step-full_up : (link_step (down_link Full) Up).1 ≡ To 1 (LinkUp 3) ∷ To 9 (LinkUp 3) ∷ []
+unfolding link_step
+link_step-full_up = refl
+
+pub link_step-full_down : (link_step (up_link Full) Down).1 ≡ To 1 (LinkDown 3) ∷ To 9 (LinkDown 3) ∷ []
+unfolding link_step
+link_step-full_down = refl
+
+pub link_step-stores_up : (link_step (down_link Stores) Up).1 ≡ To 4 (PeerUp 3 (98 ∷ [])) ∷ To 12 (PeerUp 3 (97 ∷ [])) ∷ []
+unfolding link_step
+link_step-stores_up = refl
+
+-- a Hello of end a goes to Spark of end b, a Flood to the store there
+pub link_step-hello : (link_step (up_link Full) (Net 3 (97 ∷ []) (Hello (105 ∷ []) (Some (98 ∷ [])) false))).1
+    ≡ To 9 (Net 3 (97 ∷ []) (Hello (105 ∷ []) (Some (98 ∷ [])) false)) ∷ []
+unfolding link_step carry_step direction_after forwards
+link_step-hello = refl
+
+pub link_step-flood : (link_step (up_link Full) (Net 3 (97 ∷ []) (Flood [] []))).1 ≡ To 12 (Net 3 (97 ∷ []) (Flood [] [])) ∷ []
+unfolding link_step carry_step direction_after forwards
+link_step-flood = refl

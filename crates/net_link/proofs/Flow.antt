@@ -7,14 +7,16 @@ use Rattle.std.proofs.lemmas.Slice.Eq.{bytes_eq-Decides}
 use Rattle.or_base.specs.declared.act.Act.{Act}
 use Rattle.or_base.specs.declared.item.Item.{Item}
 use Rattle.or_base.specs.declared.item.Item.TheVariants.{Up, Down, Script, Tick, Net, PeerUp}
+use Rattle.or_base.specs.declared.kind.Kind.{Kind}
+use Rattle.or_base.specs.declared.kind.Kind.TheVariants.{Stores, Full}
 use Rattle.or_base.specs.declared.message.Msg.{Msg}
 use Rattle.or_actor.specs.declared.output.Output.{Output}
 use Rattle.or_actor.specs.declared.output.Output.TheVariants.{To}
 use Rattle.net_link.specs.declared.end.End.{End}
 use Rattle.net_link.specs.declared.end.End.TheVariants.{A, B}
 use Rattle.net_link.specs.End.{other_end}
-use Rattle.net_link.specs.Link.{Direction, LinkState, direction_after, forwards, held_messages, with_acts, node_at, direction_from, with_direction, end_of, message_to, peer_up_to, peer_down_to, carry_step, script_step, without_held_messages, held_from, link_step}
-use Rattle.net_link.specs.Flow.{held_of, Brings, WasThere, IsAcross, LinksMakeNothingUp}
+use Rattle.net_link.specs.Link.{Direction, LinkState, direction_after, forwards, held_messages, with_acts, node_at, direction_from, with_direction, end_of, message_to, up_told, down_told, up_to, down_to, carry_step, script_step, without_held_messages, held_from, link_step}
+use Rattle.net_link.specs.Flow.{held_of, Brings, WasThere, IsAcross, IsPeerAcross, LinksMakeNothingUp}
 use Rattle.net_link.proofs.Came.{Came, held_came, forwards_came}
 use Rattle.net_link.proofs.Plain.{node_found}
 
@@ -65,12 +67,13 @@ held_from_end s node msg held =
 
 -- what the law says of one output, as a condition on it: so whole lists of outputs meet it by the lemmas on `All`
 abbrev IsSent : LinkState → Item → Output → Type 0
-IsSent s item (To port (Net link node msg)) = (link ≡ s.link) × IsAcross s port node × WasThere s item node msg
-IsSent s item (To port (PeerUp link peer)) = (link ≡ s.link) × IsAcross s port peer
+IsSent s item (To port (Net link node msg)) = (link ≡ s.link) × IsAcross s port node msg × WasThere s item node msg
+IsSent s item (To port (PeerUp link peer)) = (link ≡ s.link) × IsPeerAcross s port peer
 IsSent s item (To port _) = Unit {0}
 
 -- what the law says of a turn, by ends
 record IsFair (s : LinkState) (item : Item) (turn : LinkState × List Output) : Type 0 where
+  pub kind : turn.0.kind ≡ s.kind
   pub link : turn.0.link ≡ s.link
   pub a : turn.0.a ≡ s.a
   pub b : turn.0.b ≡ s.b
@@ -95,21 +98,26 @@ all_across s item from msgs came =
 both_sent : (s : LinkState) (item : Item) (x y : Output) → IsSent s item x → IsSent s item y → All (IsSent s item) (x ∷ y ∷ [])
 both_sent s item x y here there = All-cons (IsSent s item) x (y ∷ []) here (All-cons (IsSent s item) y [] there (All-nil (IsSent s item)))
 
-told_across : (s : LinkState) (item : Item) (end : End) → IsSent s item (peer_up_to s end)
-told_across s item end = (refl, record { end = end; to = refl; from = refl })
+up_across : (s : LinkState) (item : Item) (end : End) (kind : Kind) → s.kind ≡ kind → IsSent s item (up_told kind s end)
+up_across s item end Stores is = (refl, record { end = end; kind = is; to = refl; from = refl })
+up_across s item end Full is = tt
+
+down_across : (s : LinkState) (item : Item) (end : End) (kind : Kind) → IsSent s item (down_told kind s end)
+down_across s item end Stores = tt
+down_across s item end Full = tt
 
 fair_if : (s : LinkState) (item : Item) (test : Bool) (t u : LinkState × List Output) → IsFair s item t → IsFair s item u → IsFair s item (if test then t else u)
 fair_if s item true t u ft fu = ft
 fair_if s item false t u ft fu = fu
 
 fair_ignore : (s : LinkState) (item : Item) → IsFair s item (s, [])
-fair_ignore s item = record { link = refl; a = refl; b = refl; from_a = stays_held s item A; from_b = stays_held s item B; sent = All-nil (IsSent s item) }
+fair_ignore s item = record { kind = refl; link = refl; a = refl; b = refl; from_a = stays_held s item A; from_b = stays_held s item B; sent = All-nil (IsSent s item) }
 
 -- one direction is another now
 fair_direction : (s : LinkState) (item : Item) (from : End) (d : Direction) (sent : List Output)
     → All (CameFrom s item from) (held_messages d) → All (IsSent s item) sent → IsFair s item (with_direction s from d, sent)
-fair_direction s item A d sent held fair = record { link = refl; a = refl; b = refl; from_a = held; from_b = stays_held s item B; sent = fair }
-fair_direction s item B d sent held fair = record { link = refl; a = refl; b = refl; from_a = stays_held s item A; from_b = held; sent = fair }
+fair_direction s item A d sent held fair = record { kind = refl; link = refl; a = refl; b = refl; from_a = held; from_b = stays_held s item B; sent = fair }
+fair_direction s item B d sent held fair = record { kind = refl; link = refl; a = refl; b = refl; from_a = stays_held s item A; from_b = held; sent = fair }
 
 -- the message that came is brought of the node at its end
 came_from_end : (s : LinkState) (link : ℕ) (node : List ℕ) (new : Msg) (from : End) → node_at s from ≡ node
@@ -135,9 +143,10 @@ fair_script s item (Some from) acts = fair_direction s item from (with_acts (dir
 
 -- nothing is held back any more
 none_held : (s : LinkState) (item : Item) (t : LinkState) (sent : List Output)
-    → t.link ≡ s.link → t.a ≡ s.a → t.b ≡ s.b → t.from_a.held ≡ [] → t.from_b.held ≡ []
+    → t.kind ≡ s.kind → t.link ≡ s.link → t.a ≡ s.a → t.b ≡ s.b → t.from_a.held ≡ [] → t.from_b.held ≡ []
     → All (IsSent s item) sent → IsFair s item (t, sent)
-none_held s item t sent link a b none_a none_b fair = record {
+none_held s item t sent kind link a b none_a none_b fair = record {
+  kind = kind;
   link = link;
   a = a;
   b = b;
@@ -146,24 +155,25 @@ none_held s item t sent link a b none_a none_b fair = record {
   sent = fair;
 }
 
-fair_up : (s : LinkState) → IsFair s Up (record s { is_up = true }, peer_up_to s A ∷ peer_up_to s B ∷ [])
+fair_up : (s : LinkState) → IsFair s Up (record s { is_up = true }, up_to s A ∷ up_to s B ∷ [])
 fair_up s = record {
+  kind = refl;
   link = refl;
   a = refl;
   b = refl;
   from_a = stays_held s Up A;
   from_b = stays_held s Up B;
-  sent = both_sent s Up (peer_up_to s A) (peer_up_to s B) (told_across s Up A) (told_across s Up B);
+  sent = both_sent s Up (up_to s A) (up_to s B) (up_across s Up A s.kind refl) (up_across s Up B s.kind refl);
 }
 
-fair_down : (s : LinkState) → IsFair s Down (record (without_held_messages s) { is_up = false }, peer_down_to s A ∷ peer_down_to s B ∷ [])
+fair_down : (s : LinkState) → IsFair s Down (record (without_held_messages s) { is_up = false }, down_to s A ∷ down_to s B ∷ [])
 fair_down s =
-    none_held s Down (record (without_held_messages s) { is_up = false }) (peer_down_to s A ∷ peer_down_to s B ∷ []) refl refl refl refl refl
-    (both_sent s Down (peer_down_to s A) (peer_down_to s B) tt tt)
+    none_held s Down (record (without_held_messages s) { is_up = false }) (down_to s A ∷ down_to s B ∷ []) refl refl refl refl refl refl
+    (both_sent s Down (down_to s A) (down_to s B) (down_across s Down A s.kind) (down_across s Down B s.kind))
 
 fair_tick : (s : LinkState) (item : Item) → IsFair s item (without_held_messages s, held_from s A ++ held_from s B)
 fair_tick s item =
-    none_held s item (without_held_messages s) (held_from s A ++ held_from s B) refl refl refl refl refl
+    none_held s item (without_held_messages s) (held_from s A ++ held_from s B) refl refl refl refl refl refl
     (All-append (IsSent s item) (held_from s A) (held_from s B)
     (all_across s item A (held_messages s.from_a) (stays_held s item A)) (all_across s item B (held_messages s.from_b) (stays_held s item B)))
 
@@ -201,6 +211,7 @@ pub links_make_nothing_up : LinksMakeNothingUp
 links_make_nothing_up s item =
     let fair = fair_step s item in
     record {
+      kind = fair.kind;
       link = fair.link;
       a = fair.a;
       b = fair.b;

@@ -10,7 +10,7 @@ use Rattle.or_actor.specs.declared.output.Output.TheVariants.{To}
 use Rattle.net_link.specs.declared.end.End.{End}
 use Rattle.net_link.specs.declared.end.End.TheVariants.{A, B}
 use Rattle.net_link.specs.declared.held.HeldMsg.{HeldMsg}
-use Rattle.net_link.specs.End.{other_end, store_port_of}
+use Rattle.net_link.specs.End.{other_end, port_for}
 use Rattle.net_link.specs.Link.{Direction, LinkState, no_script, direction_after, forwards, is_plain, node_at, direction_from, with_direction, end_of, message_to, carry_step}
 
 neither : (acts : List Act) (held : List HeldMsg) → ((length acts == 0) && (length held == 0)) ≡ true → record { script = acts; held = held } ≡ no_script
@@ -34,7 +34,7 @@ same_direction s A = refl
 same_direction s B = refl
 
 -- a message of an end names the node there
-message_from : (s : LinkState) (from : End) (msg : Msg) → message_to s (other_end from) msg ≡ To (store_port_of (other_end from)) (Net s.link (node_at s from) msg)
+message_from : (s : LinkState) (from : End) (msg : Msg) → message_to s (other_end from) msg ≡ To (port_for (other_end from) msg) (Net s.link (node_at s from) msg)
 message_from s A msg = refl
 message_from s B msg = refl
 
@@ -59,9 +59,9 @@ carry_end s from msg h =
 
 -- through such a direction a message is carried as it came, and the link stays as it is
 pub carry_plain : (s : LinkState) (node : List ℕ) (from : End) (msg : Msg) → end_of s node ≡ Some from → is_plain (direction_from s from) ≡ true
-    → carry_step s (end_of s node) msg ≡ (s, To (store_port_of (other_end from)) (Net s.link node msg) ∷ [])
+    → carry_step s (end_of s node) msg ≡ (s, To (port_for (other_end from) msg) (Net s.link node msg) ∷ [])
 carry_plain s node from msg found h =
     ap (λ x. carry_step s x msg) found
     ∙ carry_end s from msg h
     ∙ ap (λ message. (s, message ∷ [])) (message_from s from msg)
-    ∙ ap (λ x. (s, To (store_port_of (other_end from)) (Net s.link x msg) ∷ [])) (node_found s node from found)
+    ∙ ap (λ x. (s, To (port_for (other_end from) msg) (Net s.link x msg) ∷ [])) (node_found s node from found)

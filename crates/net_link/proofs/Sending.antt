@@ -4,22 +4,26 @@ use Rattle.std.proofs.lemmas.Bool.Decides.{nat_tests}
 use Rattle.std.proofs.lemmas.List.Folds.{list_all-append}
 use Rattle.or_base.specs.declared.item.Item.{Item}
 use Rattle.or_base.specs.declared.item.Item.TheVariants.{Up, Down, Tick, Net}
+use Rattle.or_base.specs.declared.kind.Kind.{Kind}
+use Rattle.or_base.specs.declared.kind.Kind.TheVariants.{Stores, Full}
 use Rattle.or_base.specs.declared.message.Msg.{Msg}
 use Rattle.or_actor.specs.declared.output.Output.{Output}
 use Rattle.or_actor.specs.Fits.{sends_small_link, have_small_links}
 use Rattle.net_link.specs.declared.end.End.{End}
 use Rattle.net_link.specs.declared.end.End.TheVariants.{A, B}
 use Rattle.net_link.specs.End.{other_end}
-use Rattle.net_link.specs.Link.{LinkState, direction_from, end_of, message_to, peer_up_to, peer_down_to, carry_step, held_from, held_messages, forwards, link_step}
+use Rattle.net_link.specs.Link.{LinkState, direction_from, end_of, message_to, up_told, down_told, up_to, down_to, carry_step, held_from, held_messages, forwards, link_step}
 
 small_message : (s : LinkState) (end : End) (msg : Msg) → s.link < 2 ^ 31 → sends_small_link (message_to s end msg) ≡ true
 small_message s end msg h = grind (arith, nat_tests)
 
-small_up : (s : LinkState) (end : End) → s.link < 2 ^ 31 → sends_small_link (peer_up_to s end) ≡ true
-small_up s end h = grind (arith, nat_tests)
+small_up : (kind : Kind) (s : LinkState) (end : End) → s.link < 2 ^ 31 → sends_small_link (up_told kind s end) ≡ true
+small_up Stores s end h = grind (arith, nat_tests)
+small_up Full s end h = grind (arith, nat_tests)
 
-small_down : (s : LinkState) (end : End) → s.link < 2 ^ 31 → sends_small_link (peer_down_to s end) ≡ true
-small_down s end h = grind (arith, nat_tests)
+small_down : (kind : Kind) (s : LinkState) (end : End) → s.link < 2 ^ 31 → sends_small_link (down_told kind s end) ≡ true
+small_down Stores s end h = grind (arith, nat_tests)
+small_down Full s end h = grind (arith, nat_tests)
 
 small_messages : (s : LinkState) (end : End) (msgs : List Msg) → s.link < 2 ^ 31 → have_small_links (map (message_to s end) msgs) ≡ true
 small_messages s end [] h = refl
@@ -46,8 +50,8 @@ small_held s from h = small_messages s (other_end from) (held_messages (directio
 -- the link has a small number, and so have those of all that is sent
 pub small_step : (s : LinkState) (item : Item) → s.link < 2 ^ 31 → have_small_links (link_step s item).1 ≡ true
 unfolding link_step
-small_step s Up h = small_if s.is_up (s, []) (record s { is_up = true }, peer_up_to s A ∷ peer_up_to s B ∷ []) refl (small_two (peer_up_to s A) (peer_up_to s B) (small_up s A h) (small_up s B h))
-small_step s Down h = small_if s.is_up _ (s, []) (small_two (peer_down_to s A) (peer_down_to s B) (small_down s A h) (small_down s B h)) refl
+small_step s Up h = small_if s.is_up (s, []) (record s { is_up = true }, up_to s A ∷ up_to s B ∷ []) refl (small_two (up_to s A) (up_to s B) (small_up s.kind s A h) (small_up s.kind s B h))
+small_step s Down h = small_if s.is_up _ (s, []) (small_two (down_to s A) (down_to s B) (small_down s.kind s A h) (small_down s.kind s B h)) refl
 small_step s (Tick at) h = small_both (held_from s A) (held_from s B) (small_held s A h) (small_held s B h)
 small_step s (Net link from msg) h = small_if s.is_up (carry_step s (end_of s from) msg) (s, []) (small_carry s (end_of s from) msg h) refl
 small_step s _ h = refl

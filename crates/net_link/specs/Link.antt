@@ -6,13 +6,15 @@ use Rattle.or_base.specs.declared.act.Act.{Act}
 use Rattle.or_base.specs.declared.act.Act.TheVariants.{Pass, Drop, Twice, Late}
 use Rattle.or_base.specs.declared.item.Item.{Item}
 use Rattle.or_base.specs.declared.item.Item.TheVariants.{Up, Down, Script, Tick, Set, Sync, Restart, Persist, Unset, Drain, LinkDrain, Metric, Advertise, Withdraw, Aggregate, Get, Ask, LinkUp, LinkDown, NeighbourUp, NeighbourDown, PeerUp, PeerDown, Net, Entry, Routes}
+use Rattle.or_base.specs.declared.kind.Kind.{Kind}
+use Rattle.or_base.specs.declared.kind.Kind.TheVariants.{Stores, Full}
 use Rattle.or_base.specs.declared.message.Msg.{Msg}
 use Rattle.net_link.specs.declared.held.HeldMsg.{HeldMsg}
 use Rattle.or_actor.specs.declared.output.Output.{Output}
 use Rattle.or_actor.specs.declared.output.Output.TheVariants.{To}
 use Rattle.net_link.specs.declared.end.End.{End}
 use Rattle.net_link.specs.declared.end.End.TheVariants.{A, B}
-use Rattle.net_link.specs.End.{other_end, store_port_of}
+use Rattle.net_link.specs.End.{other_end, store_port_of, spark_port_of, port_for}
 
 -- one direction of a link: what it does with the next messages, one act for each, and the messages that it holds back, in
 -- the order in which they came
@@ -23,8 +25,9 @@ pub record Direction : Type 0 where
 abbrev pub no_script : Direction
 no_script = record { script = []; held = [] }
 
--- a link: its number, the nodes at its ends, whether it is up, and its directions, from a and from b
+-- a link: in what laboratory it is, its number, the nodes at its ends, whether it is up, and its directions, from a and from b
 pub record LinkState : Type 0 where
+  pub kind : Kind
   pub link : ℕ
   pub a : List ℕ
   pub b : List ℕ
@@ -33,8 +36,8 @@ pub record LinkState : Type 0 where
   pub from_b : Direction
 
 -- a link as it starts
-abbrev pub new_link : ℕ → List ℕ → List ℕ → LinkState
-new_link link a b = record { link = link; a = a; b = b; is_up = false; from_a = no_script; from_b = no_script }
+abbrev pub new_link : Kind → ℕ → List ℕ → List ℕ → LinkState
+new_link kind link a b = record { kind = kind; link = link; a = a; b = b; is_up = false; from_a = no_script; from_b = no_script }
 
 -- ---- one direction
 
@@ -111,15 +114,25 @@ with_direction s B d = record s { from_b = d }
 abbrev pub end_of : LinkState → List ℕ → Option End
 end_of s node = if bytes_eq node s.a then Some A else if bytes_eq node s.b then Some B else None
 
--- to an end's store: a message of the other end, and that the node there can be reached, or no longer
+-- to an end's Spark or store, a message of the other end
 abbrev pub message_to : LinkState → End → Msg → Output
-message_to s end msg = To (store_port_of end) (Net s.link (node_at s (other_end end)) msg)
+message_to s end msg = To (port_for end msg) (Net s.link (node_at s (other_end end)) msg)
 
-abbrev pub peer_up_to : LinkState → End → Output
-peer_up_to s end = To (store_port_of end) (PeerUp s.link (node_at s (other_end end)))
+-- Who is told that the link carries, or no longer: among stores the store of an end, that the node at the other end can be
+-- reached, or no longer; in a full laboratory Spark, which finds the node itself.
+abbrev pub up_told : Kind → LinkState → End → Output
+up_told Stores s end = To (store_port_of end) (PeerUp s.link (node_at s (other_end end)))
+up_told Full s end = To (spark_port_of end) (LinkUp s.link)
 
-abbrev pub peer_down_to : LinkState → End → Output
-peer_down_to s end = To (store_port_of end) (PeerDown s.link)
+abbrev pub down_told : Kind → LinkState → End → Output
+down_told Stores s end = To (store_port_of end) (PeerDown s.link)
+down_told Full s end = To (spark_port_of end) (LinkDown s.link)
+
+abbrev pub up_to : LinkState → End → Output
+up_to s end = up_told s.kind s end
+
+abbrev pub down_to : LinkState → End → Output
+down_to s end = down_told s.kind s end
 
 -- a message of an end goes through its direction; that of a node at no end is lost
 unfoldable pub carry_step : LinkState → Option End → Msg → LinkState × List Output
@@ -149,8 +162,8 @@ ignore s = (s, [])
 -- Going down it loses what it holds back and keeps its scripts; a message that comes while it is down is lost. A tick forwards all that
 -- is held back. A link doesn't take the items from Set on.
 unfoldable pub link_step : LinkState → Item → LinkState × List Output
-link_step s Up = if s.is_up then ignore s else (record s { is_up = true }, peer_up_to s A ∷ peer_up_to s B ∷ [])
-link_step s Down = if s.is_up then (record (without_held_messages s) { is_up = false }, peer_down_to s A ∷ peer_down_to s B ∷ []) else ignore s
+link_step s Up = if s.is_up then ignore s else (record s { is_up = true }, up_to s A ∷ up_to s B ∷ [])
+link_step s Down = if s.is_up then (record (without_held_messages s) { is_up = false }, down_to s A ∷ down_to s B ∷ []) else ignore s
 link_step s (Script from acts) = (script_step s (end_of s from) acts, [])
 link_step s (Tick at) = (without_held_messages s, held_from s A ++ held_from s B)
 link_step s (Net link from msg) = if s.is_up then carry_step s (end_of s from) msg else ignore s

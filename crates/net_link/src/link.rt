@@ -1,17 +1,19 @@
 ghost use Rattle.std.specs.Prelude.{◌≡◌, ◌++◌, [], ◌∷◌, ◌<◌, IsTrue, IfOk, OnOk, Some, map, false};
 ghost use Rattle.or_base.specs.declared.item.Item.TheVariants.{Net};
 ghost use Rattle.or_actor.specs.declared.output.Output.TheVariants.{To};
+ghost use Rattle.net_link.specs.End.{port_for};
 
 use crate::direction::LinkDirection;
-use crate::end::{End, other_end, store_port_of};
+use crate::end::{End, other_end, port_for, spark_port_of, store_port_of};
 use or_actor::{Module, Outbox, has_small_link};
-use or_base::{Act, Item, Msg, Name, NoMemory, Seq};
+use or_base::{Act, Item, Kind, Msg, Name, NoMemory, Seq};
 use std::alloc::Global;
 use std::marker::Model;
 
-/// A link between two nodes, which carries messages while it is up.
+/// A link between two nodes, which carries messages while it is up. Its kind is that of its laboratory.
 #[derive(Drop)]
 pub struct LinkModule {
+    kind: Kind,
     link: u32,
     a: Name,
     b: Name,
@@ -27,23 +29,24 @@ impl Model for LinkModule {
 
     ghost Value = { LinkState };
 
-    ghost view = { λ m. record { link = m.link; a = m.a; b = m.b; is_up = m.is_up; from_a = m.from_a; from_b = m.from_b } };
+    ghost view = { λ m. record { kind = m.kind; link = m.link; a = m.a; b = m.b; is_up = m.is_up; from_a = m.from_a; from_b = m.from_b } };
 
     ghost invariant = { λ m. m.link < link_number_end };
 }
 
-/// Sends the messages of a node to a port, in order.
+/// Sends the messages of a node to the modules of an end for which they are, in order.
 fn send_all(
     out: &mut Outbox,
-    port: u32,
+    end: End,
     link: u32,
     from: &Name,
     msgs: Vec<Msg>,
 ) -> Result<(), NoMemory>
-    ensures { OnOk result (out.new ≡ out.old ++ map (λ msg. To port (Net link from.now msg)) msgs.items) }
+    ensures { OnOk result (out.new ≡ out.old ++ map (λ msg. To (port_for end msg) (Net link from.now msg)) msgs.items) }
 {
     for msg in msgs {
         let from = from.copied()?;
+        let port = port_for(end, &msg);
         out.send(port, Item::Net { link, from, msg })?;
     }
     Ok(())
@@ -52,15 +55,17 @@ fn send_all(
 impl LinkModule {
     ghost use Rattle.or_actor.specs.Fits.{link_number_end, has_small_link, have_small_links};
     ghost use Rattle.net_link.specs.declared.end.End.TheVariants.{A, B};
-    ghost use Rattle.net_link.specs.End.{other_end, store_port_of};
-    ghost use Rattle.net_link.specs.Link.{new_link, node_at, direction_from, with_direction, end_of, message_to, peer_up_to, peer_down_to, carry_step, script_step, without_held_messages, held_from, link_step, direction_after, forwards, is_plain, held_messages, without_held, with_acts};
+    ghost use Rattle.net_link.specs.End.{other_end, port_for};
+    ghost use Rattle.net_link.specs.Link.{new_link, node_at, direction_from, with_direction, end_of, message_to, up_to, down_to, carry_step, script_step, without_held_messages, held_from, link_step, direction_after, forwards, is_plain, held_messages, without_held, with_acts};
 
-    /// A link that is down, between the nodes a and b. Its number is below `LINK_NUMBER_END`. It takes no memory.
-    pub fn new(alloc: Global, link: u32, a: Name, b: Name) -> LinkModule
+    /// A link of a laboratory of this kind, between the nodes a and b. It is down. Its number is below `LINK_NUMBER_END`.
+    /// It takes no memory.
+    pub fn new(alloc: Global, kind: Kind, link: u32, a: Name, b: Name) -> LinkModule
         requires { link < link_number_end }
-        ensures { result ≡ new_link link a b }
+        ensures { result ≡ new_link kind link a b }
     {
         LinkModule {
+            kind,
             link,
             a,
             b,
@@ -93,31 +98,40 @@ impl LinkModule {
         }
     }
 
-    /// Tells the store of an end that the node at the other end can be reached.
+    /// Tells an end that the link carries: among stores the store there, that the node at the other end can be reached; in
+    /// a full laboratory Spark.
     fn tell_up(&self, end: End, out: &mut Outbox) -> Result<(), NoMemory>
-        ensures { OnOk result (out.new ≡ out.old ++ peer_up_to self.now end ∷ []) }
+        ensures { OnOk result (out.new ≡ out.old ++ up_to self.now end ∷ []) }
     {
-        let peer = self.node_at(other_end(end)).copied()?;
         let link = self.link;
-        out.send(store_port_of(end), Item::PeerUp { link, peer })?;
+        match self.kind {
+            Kind::Stores => {
+                let peer = self.node_at(other_end(end)).copied()?;
+                out.send(store_port_of(end), Item::PeerUp { link, peer })?;
+            }
+            Kind::Full => out.send(spark_port_of(end), Item::LinkUp { link })?,
+        }
         Ok(())
     }
 
-    /// Tells it that the node can be reached no longer.
+    /// Tells it that the link carries no longer.
     fn tell_down(&self, end: End, out: &mut Outbox) -> Result<(), NoMemory>
-        ensures { OnOk result (out.new ≡ out.old ++ peer_down_to self.now end ∷ []) }
+        ensures { OnOk result (out.new ≡ out.old ++ down_to self.now end ∷ []) }
     {
         let link = self.link;
-        out.send(store_port_of(end), Item::PeerDown { link })?;
+        match self.kind {
+            Kind::Stores => out.send(store_port_of(end), Item::PeerDown { link })?,
+            Kind::Full => out.send(spark_port_of(end), Item::LinkDown { link })?,
+        }
         Ok(())
     }
 
-    /// Sends messages of the other end to the store of this end.
+    /// Sends messages of the other end to the modules of this end for which they are.
     fn send_to(&self, end: End, msgs: Vec<Msg>, out: &mut Outbox) -> Result<(), NoMemory>
         ensures { OnOk result (out.new ≡ out.old ++ map (message_to self.now end) msgs.items) }
     {
         let from = self.node_at(other_end(end));
-        send_all(out, store_port_of(end), self.link, from, msgs)?;
+        send_all(out, end, self.link, from, msgs)?;
         Ok(())
     }
 
@@ -153,16 +167,17 @@ impl LinkModule {
         }
     }
 
-    /// Sends a message of the node at an end, as it came, to the store of the other end.
+    /// Sends a message of the node at an end, as it came, to the module of the other end for which it is.
     fn pass_on(&self, from: End, node: Name, msg: Msg, out: &mut Outbox) -> Result<(), NoMemory>
-        ensures { OnOk result (out.new ≡ out.old ++ To (store_port_of (other_end from)) (Net self.now.link node msg) ∷ []) }
+        ensures { OnOk result (out.new ≡ out.old ++ To (port_for (other_end from) msg) (Net self.now.link node msg) ∷ []) }
     {
+        let port = port_for(other_end(from), &msg);
         let item = Item::Net {
             link: self.link,
             from: node,
             msg,
         };
-        out.send(store_port_of(other_end(from)), item)?;
+        out.send(port, item)?;
         Ok(())
     }
 

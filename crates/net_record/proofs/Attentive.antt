@@ -213,7 +213,7 @@ attend_turn lab marks asked w lane at within h =
 -- ---- the start and issues
 
 abbrev roles_after_driver : Laboratory → List Role
-roles_after_driver lab = flat_map (node_roles (modules_of lab.kind)) (enumerate_from 0 lab.nodes) ++ map link_role (enumerate_from 0 lab.links)
+roles_after_driver lab = flat_map (node_roles (modules_of lab.kind) lab.links) (enumerate_from 0 lab.nodes) ++ map link_role (enumerate_from 0 lab.links)
 
 pub attend_issue : (lab : Laboratory) (marks : List NodeMark) (w : WorldState) (issues : List Output) → Attends lab marks [] w → Attends lab marks (desks_asked issues) (issue w issues)
 unfolding issue
@@ -229,10 +229,10 @@ attend_issue lab marks w issues h = record {
 
 starts_new : (role : Role) (d : DeskState) → desk_of (new_part role) ≡ Some d → (d.seen ≡ 0) × (d.last ≡ 0) × (d.questions ≡ [])
 starts_new DriverRole d e = cc e
-starts_new (Node DeskRole node store) d e =
-    let same : new_desk node store ≡ d = cc e in
+starts_new (Node DeskRole node setup) d e =
+    let same : new_desk node setup.store ≡ d = cc e in
     (ap (λ (f : DeskState). f.seen) (sym same), ap (λ (f : DeskState). f.last) (sym same), ap (λ (f : DeskState). f.questions) (sym same))
-starts_new (Node _ node store) d e = cc e
+starts_new (Node _ node setup) d e = cc e
 starts_new (LinkRole link a b) d e = cc e
 
 all_new : (all : List Role) (number : ℕ) (d : DeskState) → desk_of (actor_at (map new_actor all) number).part ≡ Some d → (d.seen ≡ 0) × (d.last ≡ 0) × (d.questions ≡ [])

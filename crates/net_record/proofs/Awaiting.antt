@@ -89,13 +89,13 @@ not_true false e = cc e
 -- whoever has items for a desk is the driver
 from_driver : (from to : Role) (desk : List ℕ × ℕ) → has_items_for from to ≡ true → (standing_at_start to).desk ≡ Some desk → (standing_at_start from).driver ≡ true
 from_driver DriverRole to desk h e = refl
-from_driver (Node m node store) DriverRole desk h e = cc h
-from_driver (Node m node store) (Node DeskRole name place) desk h e = absurd (not_true (bytes_eq node name) h)
-from_driver (Node m node store) (Node _ name place) desk h e = cc e
-from_driver (Node m node store) (LinkRole link a b) desk h e = cc e
+from_driver (Node m node setup) DriverRole desk h e = cc h
+from_driver (Node m node setup) (Node DeskRole name their_setup) desk h e = absurd (not_true (bytes_eq node name) h)
+from_driver (Node m node setup) (Node _ name their_setup) desk h e = cc e
+from_driver (Node m node setup) (LinkRole link a b) desk h e = cc e
 from_driver (LinkRole link a b) DriverRole desk h e = cc h
-from_driver (LinkRole link a b) (Node DeskRole name place) desk h e = cc h
-from_driver (LinkRole link a b) (Node _ name place) desk h e = cc e
+from_driver (LinkRole link a b) (Node DeskRole name their_setup) desk h e = cc h
+from_driver (LinkRole link a b) (Node _ name their_setup) desk h e = cc e
 from_driver (LinkRole link a b) (LinkRole other c d) desk h e = cc h
 
 standing_of_role : (all : List Role) (number : ℕ) → get_or (standings_at_start all) number no_standing ≡ standing_at_start (role_at all number)

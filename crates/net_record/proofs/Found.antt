@@ -144,8 +144,8 @@ range_holds w lane h =
 
 new_within : (actors : List ActorState) (role : Role) → FoundWithin actors (desk_of (new_part role))
 new_within actors DriverRole = tt
-new_within actors (Node DeskRole node store) = omega arith
-new_within actors (Node _ node store) = tt
+new_within actors (Node DeskRole node setup) = omega arith
+new_within actors (Node _ node setup) = tt
 new_within actors (LinkRole link a b) = tt
 
 starts_within : (actors : List ActorState) (all : List Role) (number : ℕ) → FoundWithin actors (desk_of (actor_at (map new_actor all) number).part)

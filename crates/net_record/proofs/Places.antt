@@ -18,12 +18,13 @@ use Rattle.net_laboratory.specs.declared.declared.LinkDecl.{LinkDecl}
 use Rattle.net_laboratory.specs.Scenario.{Laboratory}
 use Rattle.net_record.specs.declared.role.NodeModule.{NodeModule}
 use Rattle.net_record.specs.declared.role.NodeModule.TheVariants.{Store as StoreRole, Desk as DeskRole}
+use Rattle.net_record.specs.declared.role.NodeSetup.{NodeSetup}
 use Rattle.net_record.specs.declared.role.Role.{Role}
 use Rattle.net_record.specs.declared.role.Role.TheVariants.{Driver as DriverRole, Node}
 use Rattle.net_record.specs.declared.actor.ActorState.{ActorState}
 use Rattle.net_record.specs.declared.record.NodeMark.{NodeMark}
 use Rattle.net_record.specs.Desk.{DeskState}
-use Rattle.net_record.specs.Roles.{modules_of, is_same_module, first_place, store_number, node_roles, link_role, roles}
+use Rattle.net_record.specs.Roles.{modules_of, is_same_module, first_place, store_number, ends_at, node_roles, link_role, roles}
 use Rattle.net_record.specs.Actors.{no_actor, actor_at, desk_of, store_of, entries_of, new_part, new_actor}
 use Rattle.net_record.specs.World.{marks_of}
 use Rattle.net_record.specs.Records.{journals_of}
@@ -142,61 +143,65 @@ standing_at_start role = standing_of (new_part role)
 abbrev pub standings_at_start : List Role → List Standing
 standings_at_start all = map standing_at_start all
 
-module_is_store : (m : NodeModule) (node : List ℕ) (store : ℕ) → (standing_at_start (Node m node store)).store ≡ is_same_module StoreRole m
-module_is_store StoreRole node store = refl
-module_is_store _ node store = refl
+module_is_store : (m : NodeModule) (node : List ℕ) (setup : NodeSetup) → (standing_at_start (Node m node setup)).store ≡ is_same_module StoreRole m
+module_is_store StoreRole node setup = refl
+module_is_store _ node setup = refl
 
 -- which modules are stores
 abbrev module_stores : List NodeModule → List Bool
 module_stores modules = map (is_same_module StoreRole) modules
 
-node_stores : (modules : List NodeModule) (node : List ℕ) (store : ℕ) → are_stores (standings_at_start (map (λ m. Node m node store) modules)) ≡ module_stores modules
-node_stores [] node store = refl
-node_stores (m ∷ modules) node store =
-    ap (λ b. b ∷ are_stores (standings_at_start (map (λ m. Node m node store) modules))) (module_is_store m node store)
-    ∙ ap (λ bs. is_same_module StoreRole m ∷ bs) (node_stores modules node store)
+node_stores : (modules : List NodeModule) (node : List ℕ) (setup : NodeSetup) → are_stores (standings_at_start (map (λ m. Node m node setup) modules)) ≡ module_stores modules
+node_stores [] node setup = refl
+node_stores (m ∷ modules) node setup =
+    ap (λ b. b ∷ are_stores (standings_at_start (map (λ m. Node m node setup) modules))) (module_is_store m node setup)
+    ∙ ap (λ bs. is_same_module StoreRole m ∷ bs) (node_stores modules node setup)
+
+-- what the modules of a node in this place are set up with
+abbrev pub setup_at : List NodeModule → List LinkDecl → ℕ → NodeDecl → NodeSetup
+setup_at modules links place node = record { store = store_number modules place; ends = ends_at links node.name }
 
 -- the roles of nodes, the first of which has this place, and then these
-abbrev nodes_then : List NodeModule → ℕ → List NodeDecl → List Role → List Role
-nodes_then modules place nodes others = flat_map (node_roles modules) (enumerate_from place nodes) ++ others
+abbrev nodes_then : List NodeModule → List LinkDecl → ℕ → List NodeDecl → List Role → List Role
+nodes_then modules links place nodes others = flat_map (node_roles modules links) (enumerate_from place nodes) ++ others
 
 standings-append : (first others : List Role) → standings_at_start (first ++ others) ≡ standings_at_start first ++ standings_at_start others
 standings-append first others = map-append standing_at_start first others
 
-standings-nodes : (modules : List NodeModule) (place : ℕ) (node : NodeDecl) (nodes : List NodeDecl) (others : List Role)
-    → standings_at_start (nodes_then modules place (node ∷ nodes) others)
-    ≡ standings_at_start (node_roles modules (place, node)) ++ standings_at_start (nodes_then modules (place + 1) nodes others)
-standings-nodes modules place node nodes others =
-    ap standings_at_start (append_assoc (node_roles modules (place, node)) (flat_map (node_roles modules) (enumerate_from (place + 1) nodes)) others)
-    ∙ standings-append (node_roles modules (place, node)) (nodes_then modules (place + 1) nodes others)
+standings-nodes : (modules : List NodeModule) (links : List LinkDecl) (place : ℕ) (node : NodeDecl) (nodes : List NodeDecl) (others : List Role)
+    → standings_at_start (nodes_then modules links place (node ∷ nodes) others)
+    ≡ standings_at_start (node_roles modules links (place, node)) ++ standings_at_start (nodes_then modules links (place + 1) nodes others)
+standings-nodes modules links place node nodes others =
+    ap standings_at_start (append_assoc (node_roles modules links (place, node)) (flat_map (node_roles modules links) (enumerate_from (place + 1) nodes)) others)
+    ∙ standings-append (node_roles modules links (place, node)) (nodes_then modules links (place + 1) nodes others)
 
-stores-nodes : (modules : List NodeModule) (place : ℕ) (node : NodeDecl) (nodes : List NodeDecl) (others : List Role)
-    → are_stores (standings_at_start (nodes_then modules place (node ∷ nodes) others))
-    ≡ module_stores modules ++ are_stores (standings_at_start (nodes_then modules (place + 1) nodes others))
-stores-nodes modules place node nodes others =
-    let rest = standings_at_start (nodes_then modules (place + 1) nodes others) in
-    ap are_stores (standings-nodes modules place node nodes others)
-    ∙ map-append (λ (s : Standing). s.store) (standings_at_start (node_roles modules (place, node))) rest
-    ∙ ap (λ bs. bs ++ are_stores rest) (node_stores modules node.name (store_number modules place))
+stores-nodes : (modules : List NodeModule) (links : List LinkDecl) (place : ℕ) (node : NodeDecl) (nodes : List NodeDecl) (others : List Role)
+    → are_stores (standings_at_start (nodes_then modules links place (node ∷ nodes) others))
+    ≡ module_stores modules ++ are_stores (standings_at_start (nodes_then modules links (place + 1) nodes others))
+stores-nodes modules links place node nodes others =
+    let rest = standings_at_start (nodes_then modules links (place + 1) nodes others) in
+    ap are_stores (standings-nodes modules links place node nodes others)
+    ∙ map-append (λ (s : Standing). s.store) (standings_at_start (node_roles modules links (place, node))) rest
+    ∙ ap (λ bs. bs ++ are_stores rest) (node_stores modules node.name (setup_at modules links place node))
 
 -- where the store of a node stands, among the nodes
-nodes_place : (modules : List NodeModule) (first : ℕ) (nodes : List NodeDecl) (others : List Role) (place : ℕ) → how_many (module_stores modules) ≡ 1 → place < length nodes
-    → IsPlaceOf (are_stores (standings_at_start (nodes_then modules first nodes others))) (place * length modules + first_place (is_same_module StoreRole) modules) place
-nodes_place modules first [] others place one within = absurd (omega (arith, within))
-nodes_place modules first (node ∷ nodes) others zero one within =
-    let rest = are_stores (standings_at_start (nodes_then modules (first + 1) nodes others)) in
+nodes_place : (modules : List NodeModule) (links : List LinkDecl) (first : ℕ) (nodes : List NodeDecl) (others : List Role) (place : ℕ) → how_many (module_stores modules) ≡ 1 → place < length nodes
+    → IsPlaceOf (are_stores (standings_at_start (nodes_then modules links first nodes others))) (place * length modules + first_place (is_same_module StoreRole) modules) place
+nodes_place modules links first [] others place one within = absurd (omega (arith, within))
+nodes_place modules links first (node ∷ nodes) others zero one within =
+    let rest = are_stores (standings_at_start (nodes_then modules links (first + 1) nodes others)) in
     let store = first_place (is_same_module StoreRole) modules in
     let is = first_true (is_same_module StoreRole) modules 0 one in
     let number : store ≡ 0 * length modules + store = omega arith in
-    subst (λ bs. IsPlaceOf bs (0 * length modules + store) 0) (sym (stores-nodes modules first node nodes others))
+    subst (λ bs. IsPlaceOf bs (0 * length modules + store) 0) (sym (stores-nodes modules links first node nodes others))
     (subst (λ n. IsPlaceOf (module_stores modules ++ rest) n 0) number (place_within (module_stores modules) rest store 0 is.0 is.1))
-nodes_place modules first (node ∷ nodes) others (suc place) one within =
-    let rest = are_stores (standings_at_start (nodes_then modules (first + 1) nodes others)) in
+nodes_place modules links first (node ∷ nodes) others (suc place) one within =
+    let rest = are_stores (standings_at_start (nodes_then modules links (first + 1) nodes others)) in
     let store = first_place (is_same_module StoreRole) modules in
-    let is = nodes_place modules (first + 1) nodes others place one (omega (arith, within)) in
+    let is = nodes_place modules links (first + 1) nodes others place one (omega (arith, within)) in
     let number : length (module_stores modules) + (place * length modules + store) ≡ suc place * length modules + store =
     omega (arith, length-map modules (is_same_module StoreRole), suc-mul place (length modules)) in
-    subst (λ bs. IsPlaceOf bs (suc place * length modules + store) (suc place)) (sym (stores-nodes modules first node nodes others))
+    subst (λ bs. IsPlaceOf bs (suc place * length modules + store) (suc place)) (sym (stores-nodes modules links first node nodes others))
     (subst (λ n. IsPlaceOf (module_stores modules ++ rest) n (suc place)) number
     (place_behind (module_stores modules) rest (place * length modules + store) place one is))
 
@@ -209,10 +214,10 @@ lab_place : (lab : Laboratory) (place : ℕ) → place < length lab.nodes → Is
 lab_place lab place within =
     let modules = modules_of lab.kind in
     let others = map link_role (enumerate_from 0 lab.links) in
-    let bs = are_stores (standings_at_start (nodes_then modules 0 lab.nodes others)) in
+    let bs = are_stores (standings_at_start (nodes_then modules lab.links 0 lab.nodes others)) in
     let within_nodes = place * length modules + first_place (is_same_module StoreRole) modules in
     let number : suc within_nodes ≡ store_number modules place = omega arith in
-    subst (λ n. IsPlaceOf (false ∷ bs) n place) number (nodes_place modules 0 lab.nodes others place (one_store lab.kind) within)
+    subst (λ n. IsPlaceOf (false ∷ bs) n place) number (nodes_place modules lab.links 0 lab.nodes others place (one_store lab.kind) within)
 
 -- ---- the desks
 
@@ -223,19 +228,19 @@ IsServed names all desk = ((get_or all desk.1 no_standing).store ≡ true) × (s
 abbrev DeskIsServed : List (List ℕ) → List Standing → Standing → Type 0
 DeskIsServed names all s = (desk : List ℕ × ℕ) → s.desk ≡ Some desk → IsServed names all desk
 
-module_served : (names : List (List ℕ)) (all : List Standing) (m : NodeModule) (node : List ℕ) (store : ℕ) → IsServed names all (node, store)
-    → DeskIsServed names all (standing_at_start (Node m node store))
-module_served names all DeskRole node store served desk e =
-    let same : (node, store) ≡ desk = cc e in
+module_served : (names : List (List ℕ)) (all : List Standing) (m : NodeModule) (node : List ℕ) (setup : NodeSetup) → IsServed names all (node, setup.store)
+    → DeskIsServed names all (standing_at_start (Node m node setup))
+module_served names all DeskRole node setup served desk e =
+    let same : (node, setup.store) ≡ desk = cc e in
     subst (IsServed names all) same served
-module_served names all _ node store served desk e = cc e
+module_served names all _ node setup served desk e = cc e
 
-node_served : (names : List (List ℕ)) (all : List Standing) (node : List ℕ) (store : ℕ) (modules : List NodeModule) → IsServed names all (node, store)
-    → All (DeskIsServed names all) (standings_at_start (map (λ m. Node m node store) modules))
-node_served names all node store [] served = All-nil (DeskIsServed names all)
-node_served names all node store (m ∷ modules) served =
-    All-cons (DeskIsServed names all) (standing_at_start (Node m node store)) (standings_at_start (map (λ m. Node m node store) modules))
-    (module_served names all m node store served) (node_served names all node store modules served)
+node_served : (names : List (List ℕ)) (all : List Standing) (node : List ℕ) (setup : NodeSetup) (modules : List NodeModule) → IsServed names all (node, setup.store)
+    → All (DeskIsServed names all) (standings_at_start (map (λ m. Node m node setup) modules))
+node_served names all node setup [] served = All-nil (DeskIsServed names all)
+node_served names all node setup (m ∷ modules) served =
+    All-cons (DeskIsServed names all) (standing_at_start (Node m node setup)) (standings_at_start (map (λ m. Node m node setup) modules))
+    (module_served names all m node setup served) (node_served names all node setup modules served)
 
 links_served : (names : List (List ℕ)) (all : List Standing) (links : List (ℕ × LinkDecl)) → All (DeskIsServed names all) (standings_at_start (map link_role links))
 links_served names all [] = All-nil (DeskIsServed names all)
@@ -257,20 +262,20 @@ names_next names first node nodes named i =
     let next : first + 1 + i ≡ first + suc i = omega arith in
     ap (slice_get names) next ∙ named (suc i)
 
-nodes_served : (names : List (List ℕ)) (all : List Standing) (modules : List NodeModule) (first : ℕ) (nodes : List NodeDecl) (others : List Role)
+nodes_served : (names : List (List ℕ)) (all : List Standing) (modules : List NodeModule) (links : List LinkDecl) (first : ℕ) (nodes : List NodeDecl) (others : List Role)
     → ((place : ℕ) → place < length names → IsPlaceOf (are_stores all) (store_number modules place) place) → AreNamed names first nodes
-    → All (DeskIsServed names all) (standings_at_start others) → All (DeskIsServed names all) (standings_at_start (nodes_then modules first nodes others))
-nodes_served names all modules first [] others places named rest = rest
-nodes_served names all modules first (node ∷ nodes) others places named rest =
+    → All (DeskIsServed names all) (standings_at_start others) → All (DeskIsServed names all) (standings_at_start (nodes_then modules links first nodes others))
+nodes_served names all modules links first [] others places named rest = rest
+nodes_served names all modules links first (node ∷ nodes) others places named rest =
     let here : first ≡ first + 0 = omega arith in
     let name = ap (slice_get names) here ∙ named 0 in
     let place = places first (slice_get_within names first node.name name) in
     let number = store_number modules first in
     let served = store_served names all node.name number first place name in
-    subst (All (DeskIsServed names all)) (sym (standings-nodes modules first node nodes others))
-    (All-append (DeskIsServed names all) (standings_at_start (node_roles modules (first, node))) (standings_at_start (nodes_then modules (first + 1) nodes others))
-    (node_served names all node.name number modules served)
-    (nodes_served names all modules (first + 1) nodes others places (names_next names first node nodes named) rest))
+    subst (All (DeskIsServed names all)) (sym (standings-nodes modules links first node nodes others))
+    (All-append (DeskIsServed names all) (standings_at_start (node_roles modules links (first, node))) (standings_at_start (nodes_then modules links (first + 1) nodes others))
+    (node_served names all node.name (setup_at modules links first node) modules served)
+    (nodes_served names all modules links (first + 1) nodes others places (names_next names first node nodes named) rest))
 
 all_served : (lab : Laboratory) → All (DeskIsServed (node_names lab) (standings_at_start (roles lab))) (standings_at_start (roles lab))
 all_served lab =
@@ -281,8 +286,8 @@ all_served lab =
     let as_many : length names ≡ length lab.nodes = length-map lab.nodes (λ (node : NodeDecl). node.name) in
     let places : (place : ℕ) → place < length names → IsPlaceOf (are_stores all) (store_number modules place) place =
     λ place within. lab_place lab place (omega (arith, within, as_many)) in
-    All-cons (DeskIsServed names all) (standing_at_start DriverRole) (standings_at_start (nodes_then modules 0 lab.nodes others)) (λ desk e. cc e)
-    (nodes_served names all modules 0 lab.nodes others places (λ i. ap (slice_get names) (zero-add i)) (links_served names all (enumerate_from 0 lab.links)))
+    All-cons (DeskIsServed names all) (standing_at_start DriverRole) (standings_at_start (nodes_then modules lab.links 0 lab.nodes others)) (λ desk e. cc e)
+    (nodes_served names all modules lab.links 0 lab.nodes others places (λ i. ap (slice_get names) (zero-add i)) (links_served names all (enumerate_from 0 lab.links)))
 
 -- each desk is served by the store in its node's place
 pub desk_served : (lab : Laboratory) (number : ℕ) (desk : List ℕ × ℕ) → (get_or (standings_at_start (roles lab)) number no_standing).desk ≡ Some desk

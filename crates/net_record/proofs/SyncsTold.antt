@@ -119,9 +119,9 @@ fresh me = record { numbered = numbers_stay_apart.start Stores me; left = []; al
 start_head : (role : Role) (rest : List Teller) → ((place : ℕ) → IsToldOf 0 [] (teller_in rest place))
     → (place : ℕ) → IsToldOf 0 [] (teller_in (tellers_by 0 (store_of (new_part role)) ++ rest) place)
 start_head DriverRole rest later place = later place
-start_head (Node StoreRole node store) rest later zero = fresh node
-start_head (Node StoreRole node store) rest later (suc place) = later place
-start_head (Node _ node store) rest later place = later place
+start_head (Node StoreRole node setup) rest later zero = fresh node
+start_head (Node StoreRole node setup) rest later (suc place) = later place
+start_head (Node _ node setup) rest later place = later place
 start_head (LinkRole link a b) rest later place = later place
 
 told_roles : (all : List Role) (place : ℕ) → IsToldOf 0 [] (teller_at (map new_actor all) place)

@@ -9,11 +9,13 @@ use Rattle.or_actor.specs.declared.output.Output.{Output}
 use Rattle.or_actor.specs.Steps.{TurnMade, turn_made, finds_nothing}
 use Rattle.kv_store.specs.Store.{StoreState, new_store}
 use Rattle.net_link.specs.Link.{new_link}
+use Rattle.spark_node.specs.Spark.{new_spark}
 use Rattle.net_record.specs.declared.role.NodeModule.{NodeModule}
-use Rattle.net_record.specs.declared.role.NodeModule.TheVariants.{Store as StoreRole, Desk as DeskRole}
+use Rattle.net_record.specs.declared.role.NodeModule.TheVariants.{Spark as SparkRole, Store as StoreRole, Desk as DeskRole}
+use Rattle.net_record.specs.declared.role.NodeSetup.{NodeSetup}
 use Rattle.net_record.specs.declared.role.Role.{Role}
 use Rattle.net_record.specs.declared.role.Role.TheVariants.{Driver as DriverRole, Node, Link as LinkRole}
-use Rattle.net_record.specs.declared.kinds.AnyModule.TheVariants.{Store, Link}
+use Rattle.net_record.specs.declared.kinds.AnyModule.TheVariants.{Spark, Store, Link}
 use Rattle.net_record.specs.declared.part.Part.{Part}
 use Rattle.net_record.specs.declared.part.Part.TheVariants.{Driver, Desk, Module}
 use Rattle.net_record.specs.declared.actor.ActorState.{ActorState}
@@ -23,17 +25,17 @@ use Rattle.net_record.specs.Desk.{DeskState, new_desk, key_asked, desk_after, de
 
 -- ---- what an actor is
 
--- A module of the node with this name, whose store is the actor with this number, as it starts. Decision isn't built yet, so that every
--- store is one of kind stores.
-abbrev pub node_part : NodeModule → List ℕ → ℕ → Part
-node_part StoreRole node store = Module (Store (new_store Stores node))
-node_part DeskRole node store = Desk (new_desk node store)
+-- A module of the node with this name, as it starts. A full laboratory isn't run yet, so that every store and link is of kind stores.
+abbrev pub node_part : NodeModule → List ℕ → NodeSetup → Part
+node_part SparkRole node setup = Module (Spark (new_spark node setup.ends))
+node_part StoreRole node setup = Module (Store (new_store Stores node))
+node_part DeskRole node setup = Desk (new_desk node setup.store)
 
 -- what an actor is as it starts
 abbrev pub new_part : Role → Part
 new_part DriverRole = Driver
-new_part (Node module_ node store) = node_part module_ node store
-new_part (LinkRole link a b) = Module (Link (new_link link a b))
+new_part (Node module_ node setup) = node_part module_ node setup
+new_part (LinkRole link a b) = Module (Link (new_link Stores link a b))
 
 abbrev pub new_actor : Role → ActorState
 new_actor role = record { part = new_part role; clock = 0; told = 0; made = [] }

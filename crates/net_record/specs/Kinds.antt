@@ -6,12 +6,14 @@ use Rattle.or_actor.specs.declared.output.Output.{Output}
 use Rattle.or_actor.specs.Steps.{finds_nothing}
 use Rattle.kv_store.specs.Store.{StoreState, store_step}
 use Rattle.net_link.specs.Link.{link_step}
+use Rattle.spark_node.specs.Spark.{spark_step}
 use Rattle.net_record.specs.declared.kinds.AnyModule.{AnyModule}
-use Rattle.net_record.specs.declared.kinds.AnyModule.TheVariants.{Store, Link}
+use Rattle.net_record.specs.declared.kinds.AnyModule.TheVariants.{Spark, Store, Link}
 
 -- One turn of a module: its state after it, and what it sends. No module of any kind finds a length; desks do, and stand beside
 -- the modules.
 unfoldable pub module_step : AnyModule → ℕ → Item → AnyModule × List Output
+module_step (Spark s) lane item = let after = spark_step s item in (Spark after.0, after.1)
 module_step (Store s) lane item = let after = store_step s item in (Store after.0, after.1)
 module_step (Link s) lane item = let after = link_step s item in (Link after.0, after.1)
 

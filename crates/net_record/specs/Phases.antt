@@ -11,7 +11,7 @@ use Rattle.net_laboratory.specs.declared.command.Command.TheVariants.{Settle, Ti
 use Rattle.net_laboratory.specs.Scenario.{Laboratory}
 use Rattle.net_laboratory.specs.Amounts.{claims_of}
 use Rattle.net_record.specs.declared.role.NodeModule.{NodeModule}
-use Rattle.net_record.specs.declared.role.NodeModule.TheVariants.{Store, Desk}
+use Rattle.net_record.specs.declared.role.NodeModule.TheVariants.{Spark, Store, Desk}
 use Rattle.net_record.specs.declared.role.Role.{Role}
 use Rattle.net_record.specs.declared.role.Role.TheVariants.{Driver, Node, Link}
 use Rattle.net_record.specs.declared.phase.Phase.{Phase}
@@ -23,12 +23,13 @@ ups all links = map (λ link. To (link_number all link.0) item.Up) (enumerate_fr
 
 -- the modules of a node that take ticks
 abbrev pub module_takes_ticks : NodeModule → Bool
+module_takes_ticks Spark = true
 module_takes_ticks Store = true
 module_takes_ticks Desk = false
 
 abbrev pub takes_ticks : Role → Bool
 takes_ticks Driver = false
-takes_ticks (Node m node store) = module_takes_ticks m
+takes_ticks (Node m node setup) = module_takes_ticks m
 takes_ticks (Link link a b) = true
 
 -- a Tick for an actor, which is given with its number, if it takes one

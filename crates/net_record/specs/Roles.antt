@@ -1,5 +1,5 @@
 -- Which actors a laboratory has: the driver, then the modules of each node, then the links.
-use Rattle.std.specs.Prelude.{ℕ, ◌+◌, ◌*◌, List, [], ◌∷◌, ◌++◌, length, map, Bool, false, ◌&&◌, ◌==◌}
+use Rattle.std.specs.Prelude.{ℕ, ◌+◌, ◌*◌, List, [], ◌∷◌, ◌++◌, length, map, Bool, false, ◌&&◌, ◌==◌, if◌then◌else◌}
 use Rattle.std.specs.Str.{bytes_eq}
 use Rattle.std.specs.List.{flat_map, enumerate_from, position_or_len}
 use Rattle.or_base.specs.declared.kind.Kind.{Kind}
@@ -8,20 +8,22 @@ use Rattle.net_laboratory.specs.declared.declared.NodeDecl.{NodeDecl}
 use Rattle.net_laboratory.specs.declared.declared.LinkDecl.{LinkDecl}
 use Rattle.net_laboratory.specs.Limits.{most_nodes, most_links}
 use Rattle.net_laboratory.specs.Scenario.{Laboratory}
+use Rattle.or_actor.specs.declared.link_end.LinkEnd.{LinkEnd}
 use Rattle.net_record.specs.declared.role.NodeModule.{NodeModule}
-use Rattle.net_record.specs.declared.role.NodeModule.TheVariants.{Store, Desk}
+use Rattle.net_record.specs.declared.role.NodeModule.TheVariants.{Spark, Store, Desk}
 use Rattle.net_record.specs.declared.role.Role.{Role}
 use Rattle.net_record.specs.declared.role.Role.TheVariants.{Driver, Node, Link}
 
--- the modules of a node of each kind, in the order of their numbers; of a full node those that are built
+-- the modules of a node of each kind, in the order of their numbers; a full node isn't run yet, and has those of stores
 abbrev pub modules_of : Kind → List NodeModule
 modules_of Stores = Store ∷ Desk ∷ []
 modules_of Full = Store ∷ Desk ∷ []
 
 -- each kind of module has a number of its own
 abbrev pub kind_number : NodeModule → ℕ
-kind_number Store = 0
-kind_number Desk = 1
+kind_number Spark = 0
+kind_number Store = 1
+kind_number Desk = 2
 
 abbrev pub is_same_module : NodeModule → NodeModule → Bool
 is_same_module m other = kind_number m == kind_number other
@@ -34,9 +36,21 @@ first_place test all = position_or_len test all
 abbrev pub store_number : List NodeModule → ℕ → ℕ
 store_number modules place = 1 + place * length modules + first_place (is_same_module Store) modules
 
+-- the end of a link, which is given with its number, at the node with this name, if it has one there
+abbrev pub end_at : List ℕ → ℕ × LinkDecl → List LinkEnd
+end_at name link =
+    if bytes_eq link.1.a name then record { link = link.0; other = link.1.b; own_if = link.1.aif; metric = link.1.am } ∷ []
+    else if bytes_eq link.1.b name then record { link = link.0; other = link.1.a; own_if = link.1.bif; metric = link.1.bm } ∷ []
+    else []
+
+-- the ends of links at that node, in the order of the links' numbers
+abbrev pub ends_at : List LinkDecl → List ℕ → List LinkEnd
+ends_at links name = flat_map (end_at name) (enumerate_from 0 links)
+
 -- the modules of a node, which is given with its place among the nodes
-abbrev pub node_roles : List NodeModule → ℕ × NodeDecl → List Role
-node_roles modules node = map (λ m. Node m node.1.name (store_number modules node.0)) modules
+abbrev pub node_roles : List NodeModule → List LinkDecl → ℕ × NodeDecl → List Role
+node_roles modules links node =
+    map (λ m. Node m node.1.name (record { store = store_number modules node.0; ends = ends_at links node.1.name })) modules
 
 -- a link, which is given with its number
 abbrev pub link_role : ℕ × LinkDecl → Role
@@ -44,7 +58,7 @@ link_role link = Link link.0 link.1.a link.1.b
 
 -- what the actors of a laboratory are, in the order of their numbers
 abbrev pub roles : Laboratory → List Role
-roles lab = Driver ∷ (flat_map (node_roles (modules_of lab.kind)) (enumerate_from 0 lab.nodes) ++ map link_role (enumerate_from 0 lab.links))
+roles lab = Driver ∷ (flat_map (node_roles (modules_of lab.kind) lab.links) (enumerate_from 0 lab.nodes) ++ map link_role (enumerate_from 0 lab.links))
 
 -- a node has at most so many modules
 abbrev pub most_modules : ℕ
@@ -57,13 +71,13 @@ most_actors = 1 + most_modules * most_nodes + most_links
 -- the actor is this module of the node with this name
 abbrev pub is_module : NodeModule → List ℕ → Role → Bool
 is_module m name Driver = false
-is_module m name (Node other node store) = is_same_module m other && bytes_eq node name
+is_module m name (Node other node setup) = is_same_module m other && bytes_eq node name
 is_module m name (Link link a b) = false
 
 -- the actor is the link with this number
 abbrev pub is_link_numbered : ℕ → Role → Bool
 is_link_numbered number Driver = false
-is_link_numbered number (Node m node store) = false
+is_link_numbered number (Node m node setup) = false
 is_link_numbered number (Link link a b) = link == number
 
 -- the actor number of a module of the node with this name, and that of a link

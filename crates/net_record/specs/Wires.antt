@@ -2,9 +2,9 @@
 use Rattle.std.specs.Prelude.{ℕ, ◌+◌, List, [], ◌∷◌, Bool, true, false, ◌&&◌, ◌||◌, ◌==◌, Option, if◌then◌else◌}
 use Rattle.std.specs.Str.{bytes_eq}
 use Rattle.std.specs.List.{flat_map, enumerate_from, position_from}
-use Rattle.or_actor.specs.Ports.{store_port, desk_port, first_link_port, end_b_ports}
+use Rattle.or_actor.specs.Ports.{spark_port, store_port, desk_port, first_link_port, end_b_ports}
 use Rattle.net_record.specs.declared.role.NodeModule.{NodeModule}
-use Rattle.net_record.specs.declared.role.NodeModule.TheVariants.{Store, Desk}
+use Rattle.net_record.specs.declared.role.NodeModule.TheVariants.{Spark, Store, Desk}
 use Rattle.net_record.specs.declared.role.Role.{Role}
 use Rattle.net_record.specs.declared.role.Role.TheVariants.{Driver, Node, Link}
 use Rattle.net_record.specs.declared.wire.Wire.{Wire}
@@ -13,16 +13,19 @@ use Rattle.net_record.specs.declared.wire.Wire.{Wire}
 
 -- the driver has items for the module
 abbrev pub is_driven : NodeModule → Bool
+is_driven Spark = true
 is_driven Store = true
 is_driven Desk = true
 
 -- messages go to and from the links of the module's node
 abbrev pub meets_links : NodeModule → Bool
+meets_links Spark = true
 meets_links Store = true
 meets_links Desk = false
 
 -- the port by which the other modules of its node name it, and the links that have that node as their end a
 abbrev pub port_of_module : NodeModule → ℕ
+port_of_module Spark = spark_port
 port_of_module Store = store_port
 port_of_module Desk = desk_port
 
@@ -38,13 +41,13 @@ is_link_end node a b = bytes_eq node a || bytes_eq node b
 -- an actor of the first role has items for one of the second
 abbrev pub has_items_for : Role → Role → Bool
 has_items_for Driver Driver = false
-has_items_for Driver (Node m node store) = is_driven m
+has_items_for Driver (Node m node setup) = is_driven m
 has_items_for Driver (Link link a b) = true
-has_items_for (Node m node store) Driver = false
-has_items_for (Node m node store) (Node other name place) = bytes_eq node name && has_items_within m other
-has_items_for (Node m node store) (Link link a b) = meets_links m && is_link_end node a b
+has_items_for (Node m node setup) Driver = false
+has_items_for (Node m node setup) (Node other name their_setup) = bytes_eq node name && has_items_within m other
+has_items_for (Node m node setup) (Link link a b) = meets_links m && is_link_end node a b
 has_items_for (Link link a b) Driver = false
-has_items_for (Link link a b) (Node m node store) = meets_links m && is_link_end node a b
+has_items_for (Link link a b) (Node m node setup) = meets_links m && is_link_end node a b
 has_items_for (Link link a b) (Link other c d) = false
 
 -- ---- by which port
@@ -52,19 +55,19 @@ has_items_for (Link link a b) (Link other c d) = false
 -- the port of a module of a node
 abbrev pub port_from_node : Role → ℕ
 port_from_node Driver = 0
-port_from_node (Node m node store) = port_of_module m
+port_from_node (Node m node setup) = port_of_module m
 port_from_node (Link link a b) = first_link_port + link
 
 -- the port of a link whose end a is given
 abbrev pub port_from_link : List ℕ → Role → ℕ
 port_from_link a Driver = 0
-port_from_link a (Node m node store) = if bytes_eq node a then port_of_module m else end_b_ports + port_of_module m
+port_from_link a (Node m node setup) = if bytes_eq node a then port_of_module m else end_b_ports + port_of_module m
 port_from_link a (Link link b c) = 0
 
 -- the port by which an actor of the first role names its lane to one of the second, which has the number given
 abbrev pub port_of : Role → Role → ℕ → ℕ
 port_of Driver to reader = reader
-port_of (Node m node store) to reader = port_from_node to
+port_of (Node m node setup) to reader = port_from_node to
 port_of (Link link a b) to reader = port_from_link a to
 
 -- ---- lanes

@@ -7,10 +7,13 @@ use kv_store::KvModule;
 use net_link::LinkModule;
 use or_actor::{Module, Outbox};
 use or_base::{Item, JournalEntry, NoMemory};
+use spark_node::SparkModule;
 
 /// A module of any kind that implements `Module`.
 #[derive(Drop)]
 pub enum AnyModule {
+    /// A node's Spark.
+    Spark(SparkModule),
     /// A node's store.
     Store(KvModule),
     /// A link.
@@ -56,6 +59,7 @@ impl Module for AnyModule {
 
     fn fits(&self, item: &Item) -> bool {
         match self {
+            AnyModule::Spark(spark) => spark.fits(item),
             AnyModule::Store(store) => store.fits(item),
             AnyModule::Link(link) => link.fits(item),
         }
@@ -64,6 +68,7 @@ impl Module for AnyModule {
     #[tactic(auto, unfolding(crate::specs::Kinds::module_step))]
     fn turn(&mut self, lane: u32, item: Item, out: &mut Outbox) -> Result<u64, NoMemory> {
         match self {
+            AnyModule::Spark(spark) => spark.turn(lane, item, out),
             AnyModule::Store(store) => store.turn(lane, item, out),
             AnyModule::Link(link) => link.turn(lane, item, out),
         }

@@ -52,7 +52,7 @@ pub use phasing::phases;
 pub use ports::{Port, Wiring};
 pub use questions::{answer_of, is_in_range, is_question, longest, made_for};
 pub use record::{AnswerDone, NodeMark, Record, SettleDone};
-pub use role::{NodeModule, Role};
+pub use role::{NodeModule, NodeSetup, Role};
 pub use schedule::schedule_of;
 pub use stamps::Stamps;
 pub use stores::{journals_of, marks_of};

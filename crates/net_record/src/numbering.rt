@@ -1,16 +1,18 @@
 ghost use Rattle.std.specs.Prelude.{◌≡◌, ◌+◌, ◌*◌, ◌≤◌, ◌<◌, ◌^◌, ◌++◌, All, length, map, vec_len, IfOk, OnOk};
 ghost use Rattle.std.specs.List.{flat_map, enumerate_from};
+ghost use Rattle.or_actor.specs.Fits.{link_number_end};
 ghost use Rattle.net_laboratory.specs.Limits.{most_nodes, most_links};
-ghost use Rattle.net_record.specs.Roles.{modules_of, kind_number, is_same_module, first_place, store_number, node_roles, link_role, roles, most_modules, most_actors, is_module, is_link_numbered, module_number, link_number};
+ghost use Rattle.net_record.specs.Roles.{modules_of, kind_number, is_same_module, first_place, store_number, end_at, ends_at, node_roles, link_role, roles, most_modules, most_actors, is_module, is_link_numbered, module_number, link_number};
 ghost use Rattle.net_record.specs.declared.role.NodeModule.TheVariants.{Store};
 ghost use Rattle.net_record.specs.Small.{HasSmallNumber};
 
-use crate::role::{NodeModule, Role};
+use crate::role::{NodeModule, NodeSetup, Role};
 use net_laboratory::{Kind, LinkDecl, NodeDecl, Scenario};
-use or_base::{Name, NoMemory};
+use or_actor::LinkEnd;
+use or_base::{Name, NoMemory, Seq};
 use std::alloc::Global;
 
-/// The modules of a node of each kind, in the order of their numbers; of a full node those that are built.
+/// The modules of a node of each kind, in the order of their numbers; a full node isn't run yet, and has those of stores.
 fn modules_of(alloc: Global, kind: Kind) -> Result<Vec<NodeModule>, NoMemory>
     ensures modules { IfOk result (λ modules. modules.items ≡ modules_of kind) }
     ensures few { IfOk result (λ modules. vec_len modules ≤ most_modules) }
@@ -30,8 +32,9 @@ fn kind_number(module_: NodeModule) -> u32
     ensures { result ≡ kind_number module_ }
 {
     match module_ {
-        NodeModule::Store => 0,
-        NodeModule::Desk => 1,
+        NodeModule::Spark => 0,
+        NodeModule::Store => 1,
+        NodeModule::Desk => 2,
     }
 }
 
@@ -55,25 +58,76 @@ fn store_place(modules: &[NodeModule]) -> usize
     modules.len()
 }
 
+/// Adds the end of a link, which is given with its number, at the node with this name, if it has one there.
+fn add_end(
+    ends: &mut Vec<LinkEnd>,
+    name: &Name,
+    number: u32,
+    link: &LinkDecl,
+) -> Result<(), NoMemory>
+    requires { number < link_number_end }
+    ensures added { OnOk result (ends.new.items ≡ ends.old.items ++ end_at name.now (number, link.now)) }
+    ensures small { All (λ end. end.link < link_number_end) ends.old.items → OnOk result (All (λ end. end.link < link_number_end) ends.new.items) }
+{
+    if link.a.as_str() == name.as_str() {
+        ends.push(LinkEnd {
+            link: number,
+            other: link.b.copied()?,
+            own_if: link.aif.copied()?,
+            metric: link.am,
+        })?;
+    } else if link.b.as_str() == name.as_str() {
+        ends.push(LinkEnd {
+            link: number,
+            other: link.a.copied()?,
+            own_if: link.bif.copied()?,
+            metric: link.bm,
+        })?;
+    }
+    Ok(())
+}
+
+/// The ends of links at the node with this name, in the order of the links' numbers.
+#[tactic(auto, using(crate::proofs::Enumerated::flat_more))]
+fn ends_at(alloc: Global, links: &[LinkDecl], name: &Name) -> Result<Vec<LinkEnd>, NoMemory>
+    requires { length links.now ≤ most_links }
+    ensures ends { IfOk result (λ ends. ends.items ≡ ends_at links.now name.now) }
+    ensures small { IfOk result (λ ends. All (λ end. end.link < link_number_end) ends.items) }
+{
+    let mut ends = Vec::new(alloc);
+    for (number, link) in links.iter().enumerate() {
+        add_end(&mut ends, name, number as u32, link)?;
+    }
+    Ok(ends)
+}
+
 /// Adds the modules of a node, which is given with its place among the nodes.
 fn add_node(
+    alloc: Global,
     all: &mut Vec<Role>,
     modules: &[NodeModule],
+    links: &[LinkDecl],
     place: usize,
     node: &NodeDecl,
 ) -> Result<(), NoMemory>
     requires few { length modules.now ≤ most_modules }
+    requires links { length links.now ≤ most_links }
     requires place { place < most_nodes }
-    ensures added { OnOk result (all.new.items ≡ all.old.items ++ node_roles modules.now (place, node.now)) }
+    ensures added { OnOk result (all.new.items ≡ all.old.items ++ node_roles modules.now links.now (place, node.now)) }
     ensures len { OnOk result (vec_len all.new ≡ vec_len all.old + length modules.now) }
     ensures small { All HasSmallNumber all.old.items → OnOk result (All HasSmallNumber all.new.items) }
 {
     let store = 1 + place * modules.len() + store_place(modules);
     for module_ in modules {
+        let ends = ends_at(alloc, links, &node.name)?;
+        let setup = NodeSetup {
+            store: store as u32,
+            ends: Seq::from_vec(ends),
+        };
         all.push(Role::Node {
             module: *module_,
             node: node.name.copied()?,
-            store: store as u32,
+            setup,
         })?;
     }
     Ok(())
@@ -82,18 +136,21 @@ fn add_node(
 /// Adds the modules of all nodes.
 #[tactic(auto, using(crate::proofs::Enumerated::flat_more))]
 fn add_nodes(
+    alloc: Global,
     all: &mut Vec<Role>,
     modules: &[NodeModule],
+    links: &[LinkDecl],
     nodes: &[NodeDecl],
 ) -> Result<(), NoMemory>
     requires few { length modules.now ≤ most_modules }
+    requires links { length links.now ≤ most_links }
     requires nodes { length nodes.now ≤ most_nodes }
-    ensures added { OnOk result (all.new.items ≡ all.old.items ++ flat_map (node_roles modules.now) (enumerate_from 0 nodes.now)) }
+    ensures added { OnOk result (all.new.items ≡ all.old.items ++ flat_map (node_roles modules.now links.now) (enumerate_from 0 nodes.now)) }
     ensures len { OnOk result (vec_len all.new ≡ vec_len all.old + length nodes.now * length modules.now) }
     ensures small { All HasSmallNumber all.old.items → OnOk result (All HasSmallNumber all.new.items) }
 {
     for (place, node) in nodes.iter().enumerate() {
-        add_node(all, modules, place, node)?;
+        add_node(alloc, all, modules, links, place, node)?;
     }
     Ok(())
 }
@@ -124,8 +181,9 @@ pub fn roles(alloc: Global, scenario: &Scenario) -> Result<Vec<Role>, NoMemory>
     let modules = modules_of(alloc, scenario.kind)?;
     let mut all = Vec::new(alloc);
     all.push(Role::Driver)?;
-    add_nodes(&mut all, modules.as_slice(), scenario.nodes())?;
-    add_links(&mut all, scenario.links())?;
+    let links = scenario.links();
+    add_nodes(alloc, &mut all, modules.as_slice(), links, scenario.nodes())?;
+    add_links(&mut all, links)?;
     Ok(all)
 }
 

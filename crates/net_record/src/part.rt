@@ -1,13 +1,15 @@
-ghost use Rattle.std.specs.Prelude.{◌≡◌, ◌<◌, ◌-◌, ◌^◌, ◌++◌, length, option_map, slice_index_or, IsTrue, IfOk, OnOk};
+ghost use Rattle.std.specs.Prelude.{◌≡◌, ◌<◌, All, ◌-◌, ◌^◌, ◌++◌, length, option_map, slice_index_or, IsTrue, IfOk, OnOk};
+ghost use Rattle.or_actor.specs.Fits.{link_number_end};
 ghost use Rattle.net_record.specs.Actors.{node_part};
 
 use crate::desk::Desk;
 use crate::kinds::AnyModule;
-use crate::role::{NodeModule, Role};
+use crate::role::{NodeModule, NodeSetup, Role};
 use kv_store::KvModule;
 use net_link::LinkModule;
-use or_actor::{Module, Outbox, has_small_link};
+use or_actor::{LinkEnd, Module, Outbox, has_small_link};
 use or_base::{Item, JournalEntry, Kind, Name, NoMemory};
+use spark_node::SparkModule;
 use std::alloc::Global;
 
 /// What an actor is.
@@ -21,17 +23,38 @@ pub enum Part {
     Module(AnyModule),
 }
 
+/// Copies the ends of links.
+fn copied_ends(alloc: Global, ends: &[LinkEnd]) -> Result<Vec<LinkEnd>, NoMemory>
+    ensures { IfOk result (λ copies. copies.items ≡ ends.now) }
+{
+    let mut copies = Vec::new(alloc);
+    for end in ends {
+        copies.push(end.clone()?)?;
+    }
+    Ok(copies)
+}
+
 /// A module of a node as it starts.
-fn node_part(alloc: Global, module_: NodeModule, node: Name, store: u32) -> Result<Part, NoMemory>
-    ensures { IfOk result (λ part. part ≡ node_part module_ node store) }
+fn node_part(
+    alloc: Global,
+    module_: NodeModule,
+    node: Name,
+    setup: &NodeSetup,
+) -> Result<Part, NoMemory>
+    requires { All (λ end. end.link < link_number_end) setup.now.ends }
+    ensures { IfOk result (λ part. part ≡ node_part module_ node setup.now) }
 {
     match module_ {
+        NodeModule::Spark => {
+            let ends = copied_ends(alloc, setup.ends.as_slice())?;
+            Ok(Part::Module(AnyModule::Spark(SparkModule::new(alloc, node, ends)?)))
+        }
         NodeModule::Store => Ok(Part::Module(AnyModule::Store(KvModule::new(
             alloc,
             Kind::Stores,
             node,
         )?))),
-        NodeModule::Desk => Ok(Part::Desk(Desk::new(alloc, node, store))),
+        NodeModule::Desk => Ok(Part::Desk(Desk::new(alloc, node, setup.store))),
     }
 }
 
@@ -51,10 +74,10 @@ impl Part {
             Role::Node {
                 module,
                 node,
-                store,
-            } => node_part(alloc, *module, node.copied()?, *store),
+                setup,
+            } => node_part(alloc, *module, node.copied()?, setup),
             Role::Link { link, a, b } => {
-                let link = LinkModule::new(alloc, *link, a.copied()?, b.copied()?);
+                let link = LinkModule::new(alloc, Kind::Stores, *link, a.copied()?, b.copied()?);
                 Ok(Part::Module(AnyModule::Link(link)))
             }
         }

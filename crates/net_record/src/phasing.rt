@@ -38,7 +38,7 @@ fn module_takes_ticks(module_: NodeModule) -> bool
     ensures { result ≡ module_takes_ticks module_ }
 {
     match module_ {
-        NodeModule::Store => true,
+        NodeModule::Spark | NodeModule::Store => true,
         NodeModule::Desk => false,
     }
 }

@@ -1,12 +1,24 @@
-use or_base::Name;
+use or_actor::LinkEnd;
+use or_base::{Name, Seq};
 
 /// What a node consists of.
 #[derive(Clone, Copy, Debug, PartialEq, Eq)]
 pub enum NodeModule {
+    /// Its Spark, which finds neighbours.
+    Spark,
     /// Its store.
     Store,
     /// Its desk, which answers questions.
     Desk,
+}
+
+/// What the modules of a node are set up with.
+#[derive(Drop)]
+pub struct NodeSetup {
+    /// The actor number of the node's store.
+    pub store: u32,
+    /// The ends of the node's links, in the order of the links' numbers.
+    pub ends: Seq<LinkEnd>,
 }
 
 /// What an actor is. Actors are numbered from 0: the driver, then the modules of the nodes in order, then the links.
@@ -14,11 +26,11 @@ pub enum NodeModule {
 pub enum Role {
     /// Gives out what the commands say.
     Driver,
-    /// A module of a node, whose store is the actor with the number `store`.
+    /// A module of a node.
     Node {
         module: NodeModule,
         node: Name,
-        store: u32,
+        setup: NodeSetup,
     },
     /// A link between the nodes a and b.
     Link {

@@ -6,7 +6,7 @@ ghost use Rattle.net_record.specs.Wired.{JoinsBelow};
 
 use crate::role::{NodeModule, Role};
 use crate::wire::Wire;
-use or_actor::{DESK_PORT, END_B_PORTS, FIRST_LINK_PORT, STORE_PORT};
+use or_actor::{DESK_PORT, END_B_PORTS, FIRST_LINK_PORT, SPARK_PORT, STORE_PORT};
 use or_base::{Name, NoMemory};
 use std::alloc::Global;
 
@@ -15,7 +15,7 @@ fn is_driven(module_: NodeModule) -> bool
     ensures { result ≡ is_driven module_ }
 {
     match module_ {
-        NodeModule::Store | NodeModule::Desk => true,
+        NodeModule::Spark | NodeModule::Store | NodeModule::Desk => true,
     }
 }
 
@@ -24,7 +24,7 @@ fn meets_links(module_: NodeModule) -> bool
     ensures { result ≡ meets_links module_ }
 {
     match module_ {
-        NodeModule::Store => true,
+        NodeModule::Spark | NodeModule::Store => true,
         NodeModule::Desk => false,
     }
 }
@@ -35,6 +35,7 @@ fn port_of_module(module_: NodeModule) -> u32
     ensures small { result < 8 }
 {
     match module_ {
+        NodeModule::Spark => SPARK_PORT,
         NodeModule::Store => STORE_PORT,
         NodeModule::Desk => DESK_PORT,
     }
