@@ -35,6 +35,9 @@ pub record NoFault (seen : Seen) (turns : Bool) (line : Line) (w : Word) (d : Da
 pub record Read (seen : Seen) (turns : Bool) (line : Line) (s : Statement) : Type 0 where
   pub w : Word
   pub d : Data
+  pub text : is_utf8 line.text ≡ true
+  pub object : object_in line.text ≡ Some d
+  pub named : word_in d ≡ Some w
   pub faultless : NoFault seen turns line w d
   pub opened : (is_some seen.kind ≡ true) ⊎ (w ≡ word.Lab)
   pub says : statement_of w d ≡ s
@@ -70,13 +73,13 @@ opened_by seen d w named e =
       | inr lab ↦ inr (lab_word d w (from_not (is_lab d) lab) named)
     ]
 
-read_object : (seen : Seen) (turns : Bool) (line : Line) (object : Option Data) (s : Statement)
+read_object : (seen : Seen) (turns : Bool) (line : Line) (object : Option Data) (s : Statement) → object_in line.text ≡ object
     → outcome (first_fault (conditions seen turns line object)) (statement_in object) ≡ Ok s → Read seen turns line s
-read_object seen turns line None s e =
+read_object seen turns line None s o e =
     let r1 = first (not (is_utf8 line.text)) fault.NotText (Some fault.BadJson) None s e in
     let r2 = first true fault.BadJson None None s r1.1 in
     absurd (true≢false r2.0)
-read_object seen turns line (Some d) s e =
+read_object seen turns line (Some d) s o e =
     let what : Option Statement = option_map (λ w. statement_of w d) (word_in d) in
     let r1 = first (not (is_utf8 line.text)) fault.NotText _ what s e in
     let r3 = first (is_none seen.kind && not (is_lab d)) fault.NoLab _ what s r1.1 in
@@ -97,6 +100,9 @@ read_object seen turns line (Some d) s e =
     record {
       w = w;
       d = d;
+      text = from_not (is_utf8 line.text) r1.0;
+      object = o;
+      named = named.1;
       faultless = record {
         missing = at (λ w. is_field_missing w d) r5.0;
         bad = at (λ w. is_bad_field seen w d) r6.0;
@@ -119,4 +125,4 @@ read_object seen turns line (Some d) s e =
 
 pub read_line : (seen : Seen) (turns : Bool) (line : Line) (s : Statement) → line_of seen turns line ≡ Ok s → Read seen turns line s
 unfolding line_of
-read_line seen turns line s e = read_object seen turns line (object_in line.text) s e
+read_line seen turns line s e = read_object seen turns line (object_in line.text) s refl e

@@ -10,3 +10,4 @@ pub mod Tallies
 pub mod Cuts
 pub mod Lines
 pub mod Late
+pub mod TurnLines

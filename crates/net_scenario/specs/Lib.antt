@@ -6,3 +6,4 @@ pub mod Faults
 pub mod Language
 pub mod Gives
 pub mod Tallied
+pub mod TurnLines

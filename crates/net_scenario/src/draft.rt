@@ -116,7 +116,7 @@ impl Draft {
 
     /// Adds a turn.
     #[tactic(auto, unfolding(crate::specs::Seen::with_line), using(crate::proofs::Tallies::one_more))]
-    fn add_turn(&mut self, turn: Turn) -> Result<(), NoMemory>
+    pub fn add_turn(&mut self, turn: Turn) -> Result<(), NoMemory>
         requires tallied { IsTallied self.old }
         requires admitted { admits (seen_in self.old) (SaysTurn turn) ≡ true }
         ensures seen { OnOk result (seen_in self.new ≡ with_line (seen_in self.old) (SaysTurn turn)) }

@@ -1,19 +1,23 @@
 //! A scenario as bytes: its lines, read one after another.
 
-ghost use Rattle.std.specs.Prelude.{◌≡◌, ◌+◌, ◌<◌, ◌≤◌, ◌∷◌, min, length, IfOk, OnOk};
+ghost use Rattle.std.specs.Prelude.{◌≡◌, ◌+◌, ◌<◌, ◌≤◌, ◌∷◌, true, false, min, length, IfOk, OnOk, IfSome};
 ghost use Rattle.net_scenario.specs.Faults.{line_of};
 ghost use Rattle.net_scenario.specs.Gives.{GivesSeen, GivesScenario};
 ghost use Rattle.net_scenario.specs.Language.{is_blank_byte, is_blank, is_all_blank, lines_in, fault_at, after_line, line_step, scenario_of};
 ghost use Rattle.net_laboratory.specs.Limits.{most_scenario_bytes};
 ghost use Rattle.net_laboratory.specs.Amounts.{ends_in_settle};
-ghost use Rattle.net_scenario.specs.Seen.{with_last_settle, schedule_given, scenario_in};
+ghost use Rattle.net_scenario.specs.Seen.{with_line, admits, with_last_settle, schedule_given, scenario_in};
 ghost use Rattle.net_scenario.specs.Tallied.{seen_in, line_at, IsTallied};
+ghost use Rattle.net_scenario.specs.TurnLines.{takes_turn, SaysTurn};
 ghost use Rattle.net_scenario.specs.declared.fault.ReadRefusal.TheVariants.{Fault};
+ghost use Rattle.net_scenario.specs.declared.statement.Statement.TheVariants as says;
 
 use crate::draft::Draft;
 use crate::fault::{FaultKind, LineRefusal, ReadRefusal, ScenarioFault};
 use crate::line::{LineRead, read_line};
-use net_laboratory::{Command, DEFAULT_ROUNDS, Scenario, Schedule, Show, Turn};
+use crate::statement::Statement;
+use crate::turn_lines::TurnLines;
+use net_laboratory::{Command, DEFAULT_ROUNDS, MOST_TURNS, Scenario, Schedule, Show, Turn};
 use or_base::{NoMemory, Seq};
 use std::alloc::Global;
 
@@ -68,16 +72,55 @@ fn fault_at(line: &LineRead<'_>, kind: FaultKind) -> ReadRefusal
     })
 }
 
+/// A turn line may stand here.
+fn takes_turn(draft: &Draft, line: &LineRead<'_>) -> bool
+    ensures { result ≡ takes_turn (seen_in draft.now) line.now.turns (line_at line.now) }
+{
+    line.turns && draft.kind.is_some() && draft.turns.len() < MOST_TURNS && !line.is_late()
+}
+
+/// The turn that the line says, where it may stand here and its text was read as a turn line before.
+fn turn_again(draft: &Draft, lines: &TurnLines<'_>, line: &LineRead<'_>) -> Option<Turn>
+    ensures adds { IfSome result (λ turn. line_step (seen_in draft.now) line.now.turns (line_at line.now) ≡ Ok (with_line (seen_in draft.now) (says.Turn turn))) }
+    ensures admitted { IfSome result (λ turn. admits (seen_in draft.now) (says.Turn turn) ≡ true) }
+{
+    if draft.turns.is_empty() || !takes_turn(draft, line) {
+        return None;
+    }
+    lines.turn_of(line.text)
+}
+
+/// Keeps the turn that a line of this text says, if it says one.
+fn keep_turn<'a>(
+    lines: &mut TurnLines<'a>,
+    text: &'a [u8],
+    statement: &Statement,
+) -> Result<(), NoMemory>
+    requires { (turn : Turn) → statement.now ≡ says.Turn turn → SaysTurn text.now turn }
+{
+    if let Statement::Turn { turn } = statement {
+        lines.keep(text, *turn)?;
+    }
+    Ok(())
+}
+
 /// Reads a line that isn't blank into the draft.
 #[tactic(auto, using(crate::proofs::Admitted::line_admitted))]
-fn read_statement(alloc: Global, draft: &mut Draft, line: &LineRead<'_>) -> Result<(), ReadRefusal>
-    requires { IsTallied draft.old }
+fn read_statement<'a>(
+    alloc: Global,
+    draft: &mut Draft,
+    lines: &mut TurnLines<'a>,
+    line: &LineRead<'a>,
+) -> Result<(), ReadRefusal>
+    requires tallied { IsTallied draft.old }
+    requires filled { is_blank line.now.text.now ≡ false }
     ensures gives { GivesSeen (seen_in draft.new) result
         (after_line (seen_in draft.old) line.now.number (line_of (seen_in draft.old) line.now.turns (line_at line.now))) }
     ensures tallied { OnOk result (IsTallied draft.new) }
 {
     match read_line(alloc, draft, line) {
         Ok(statement) => {
+            keep_turn(lines, line.text, &statement)?;
             draft.add(alloc, statement)?;
             Ok(())
         }
@@ -88,13 +131,22 @@ fn read_statement(alloc: Global, draft: &mut Draft, line: &LineRead<'_>) -> Resu
 
 /// Reads a line into the draft.
 #[tactic(auto, unfolding(crate::specs::Language::line_step))]
-fn read_into(alloc: Global, draft: &mut Draft, line: &LineRead<'_>) -> Result<(), ReadRefusal>
+fn read_into<'a>(
+    alloc: Global,
+    draft: &mut Draft,
+    lines: &mut TurnLines<'a>,
+    line: &LineRead<'a>,
+) -> Result<(), ReadRefusal>
     requires { IsTallied draft.old }
     ensures gives { GivesSeen (seen_in draft.new) result (line_step (seen_in draft.old) line.now.turns (line_at line.now)) }
     ensures tallied { OnOk result (IsTallied draft.new) }
 {
+    if let Some(turn) = turn_again(draft, lines, line) {
+        draft.add_turn(turn)?;
+        return Ok(());
+    }
     if !is_blank(line.text) {
-        return read_statement(alloc, draft, line);
+        return read_statement(alloc, draft, lines, line);
     }
     if line.is_late() {
         return Err(fault_at(line, FaultKind::TooLong));
@@ -161,6 +213,7 @@ pub fn read_scenario(alloc: Global, bytes: &[u8], turns: bool) -> Result<Scenari
         }));
     }
     let mut draft = Draft::new(alloc);
+    let mut lines = TurnLines::new(alloc);
     let mut left = bytes;
     let mut number = 1;
     while !left.is_empty() {
@@ -171,7 +224,7 @@ pub fn read_scenario(alloc: Global, bytes: &[u8], turns: bool) -> Result<Scenari
             end: (bytes.len() - rest.len()) as u64,
             turns,
         };
-        read_into(alloc, &mut draft, &line)?;
+        read_into(alloc, &mut draft, &mut lines, &line)?;
         number += 1;
         left = rest;
     }

@@ -9,8 +9,12 @@
 //!
 //! What is read is net_laboratory's `Scenario`, whose type keeps that it is sound.
 //!
+//! The turn lines of a report are few texts, many times over. So a text that was read as a turn line is kept with its
+//! turn (`turn_lines`), and where it comes again it isn't read as JSON: it says the same turn wherever a turn line may
+//! stand (`specs/TurnLines.antt`).
+//!
 //! The files: `statement` and `fault` (plain data), `names` and `tally` (what the lines so far amount to), `draft` (what
-//! they say), `conditions` (the conditions on a line), `reading` (what it says), `line`, `language`.
+//! they say), `conditions` (the conditions on a line), `reading` (what it says), `turn_lines`, `line`, `language`.
 #![tactic(auto)]
 
 mod conditions;
@@ -22,6 +26,7 @@ mod names;
 mod reading;
 mod statement;
 mod tally;
+mod turn_lines;
 
 pub use fault::{FaultKind, ReadRefusal, ScenarioFault};
 pub use language::read_scenario;
