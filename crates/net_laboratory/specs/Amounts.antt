@@ -8,6 +8,7 @@ use Rattle.or_base.specs.Prefixes.{is_same_prefix}
 use Rattle.or_base.specs.declared.kind.Kind.{Kind}
 use Rattle.or_base.specs.declared.kind.Kind.TheVariants as kind
 use Rattle.or_base.specs.declared.prefix.Prefix.{Prefix}
+pub use Rattle.or_json.specs.Keys.{link_record_key, prefix_record_key}
 use Rattle.net_laboratory.specs.declared.declared.NodeDecl.{NodeDecl}
 use Rattle.net_laboratory.specs.Limits.{most_keys, most_prefixes_of_node}
 use Rattle.net_laboratory.specs.Scenario.{is_declared}
@@ -57,13 +58,7 @@ claims_of (Ask node prefix) = no_claims
 abbrev pub with_name : List (List ℕ) → List ℕ → List (List ℕ)
 with_name names name = if is_among name names then names else names ++ name ∷ []
 
--- the keys of the two records that a node of a full laboratory publishes
-abbrev pub link_record_key : List ℕ → List ℕ
-link_record_key node = codes "adj:" ++ node
-
-abbrev pub prefix_record_key : List ℕ → List ℕ
-prefix_record_key node = codes "prefix:" ++ node
-
+-- with the keys of the two records that a node of a full laboratory publishes
 abbrev pub with_record_keys : Kind → List (List ℕ) → NodeDecl → List (List ℕ)
 with_record_keys kind.Stores keys node = keys
 with_record_keys kind.Full keys node = with_name (with_name keys (link_record_key node.name)) (prefix_record_key node.name)

@@ -4,3 +4,4 @@ pub mod Simple
 pub mod ItemsAgain
 pub mod LinksAgain
 pub mod PrefixesAgain
+pub mod Examples

@@ -7,7 +7,7 @@
 //!
 //! The files: `member` (single members, written by the writer of `json`, which keeps their order), `object` (single
 //! members, read), `items` (the list of items that a record has, over the trait `RecordItem`), `adjacency` and
-//! `prefix_entry` (the two kinds of items), `adj_write`, `prefix_write`, `adj_read` and `prefix_read`. That a text is
+//! `prefix_entry` (the two kinds of items), `adj_write`, `prefix_write`, `adj_read` and `prefix_read`, and `keys`. That a text is
 //! read again is proved over the definitions, in `proofs/ItemsAgain.antt`, `LinksAgain.antt` and `PrefixesAgain.antt`.
 #![tactic(auto)]
 
@@ -15,6 +15,7 @@ mod adj_read;
 mod adj_write;
 mod adjacency;
 mod items;
+mod keys;
 mod member;
 mod object;
 mod prefix_entry;
@@ -23,5 +24,6 @@ mod prefix_write;
 
 pub use adj_read::adj_of;
 pub use adj_write::adj_text;
+pub use keys::{link_record_key, prefix_record_key};
 pub use prefix_read::prefixes_of;
 pub use prefix_write::prefixes_text;
