@@ -4,7 +4,7 @@
     python3 bench/reading.py
 
 Prints, for each, the bytes, the seconds (best of three), the greatest memory in use, how often that is the input, and
-the answer. The laboratories are full ones, which aren't run yet: what is measured is reading alone.
+the answer. In each laboratory a forwarding agent fails, which isn't run yet: what is measured is reading alone.
 """
 from measure import best
 
@@ -14,7 +14,7 @@ A_TURN = '{"do":"turn","lane":0,"at":0}'
 
 def declarations():
     lines = ['{"do":"lab","kind":"full"}']
-    lines += ['{"do":"node","name":"n%d"}' % n for n in range(64)]
+    lines += ['{"do":"node","name":"n%d","faults":[1]}' % n for n in range(64)]
     for n in range(64):
         for d in range(4):
             lines.append('{"do":"link","a":"n%d","b":"n%d","aif":"r%d","bif":"l%d"}' % (n, (n + 1) % 64, d, d))

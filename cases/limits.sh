@@ -31,7 +31,6 @@ accept() {
 refuse_input() { run_text "$1" 3 "fault line $2"$'\n' replay; }
 
 settled='settle 1 moment 0'
-unbuilt='not built'
 full='{"do":"lab","kind":"full"}'
 node_a='{"do":"node","name":"a"}'
 node_b='{"do":"node","name":"b"}'
@@ -100,14 +99,14 @@ keys_at() { echo "$1"; echo "$node_a"; numbered "$2" "$set_key" '"}'; }
 
 accept "512 keys, and one of them again" 0 "$settled" < <(keys_at "$lab" 512; numbered 1 "$set_key" '"}')
 refuse_input "513 keys" "515 number 10 TooMany" < <(keys_at "$lab" 513)
-accept "512 keys with those of a node's records" 3 "$unbuilt" < <(keys_at "$full" 510; echo "${set_key}adj:a\"}")
+accept "512 keys with those of a node's records" 0 "$settled" < <(keys_at "$full" 510; echo "${set_key}adj:a\"}")
 refuse_input "513 keys with those of a node's records" "513 number 10 TooMany" < <(keys_at "$full" 511)
 refuse_input "a misplaced node whose records are too many keys" "512 number 10 TooMany" < <(keys_at "$full" 509; echo "$node_b")
 
 # A full laboratory with one node, and so many prefixes.
 prefixes() { echo "$full"; echo "$node_a"; numbered "$1" '{"do":"advertise","node":"a","prefix":"10.' '.0.0/16"}'; }
 
-accept "32 prefixes of a node" 3 "$unbuilt" < <(prefixes 32)
+accept "32 prefixes of a node" 0 "$settled" < <(prefixes 32)
 refuse_input "33 prefixes of a node" "35 number 10 TooMany" < <(prefixes 33)
 accept "1,000 settles and a tick, and then the settle that no limit counts" 0 "$settled" \
     < <(echo "$lab"; lines 1000 "$settle"; echo '{"do":"tick","to":0}')

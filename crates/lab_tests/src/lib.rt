@@ -8,6 +8,8 @@
 #![tactic(auto)]
 
 #[cfg(test)]
+mod advertising;
+#[cfg(test)]
 mod agreement;
 pub mod fixtures;
 #[cfg(test)]

@@ -2,7 +2,7 @@
 use Rattle.std.proofs.Common.{◌≡◌, ℕ, ◌+◌, inl, inr, List, [], ◌∷◌, Option, Some, None, length, refl, sym, ◌∙◌, subst}
 use Rattle.std.specs.Prelude.{slice_get}
 use Rattle.std.proofs.lemmas.List.{length_push}
-use Rattle.or_base.specs.declared.kind.Kind.TheVariants.{Stores}
+use Rattle.or_base.specs.declared.kind.Kind.{Kind}
 use Rattle.or_base.specs.declared.item.Item.{Item}
 use Rattle.or_base.specs.declared.item.Stamped.{Stamped}
 use Rattle.or_actor.specs.declared.output.Output.{Output}
@@ -24,72 +24,72 @@ use Rattle.net_agree.specs.Counted.{RunsAreCounted}
 use Rattle.net_agree.proofs.CountedStores.{store_at, store_there, IsAfter, starts_new, actor_stepped, stores_settled, turns_settled}
 use Rattle.net_agree.proofs.LiftedSends.{turn_of_one}
 
--- After so many turns the full syncs of a store are numbered so, and the store is one of kind stores.
-pub record IsKept (count : ℕ) (s : StoreState) : Type 0 where
+-- After so many turns the full syncs of a store are numbered so, and the store is one of this kind.
+pub record IsKept (of : Kind) (count : ℕ) (s : StoreState) : Type 0 where
   pub numbered : IsNumbered count s
-  pub kind : s.kind ≡ Stores
+  pub kind : s.kind ≡ of
 
 -- each store of a world is as after so many turns as were done
-abbrev AreKept : WorldState → Type 0
-AreKept w = (number : ℕ) (s : StoreState) → store_at w.actors number ≡ Some s → IsKept (length w.turns) s
+abbrev AreKept : Kind → WorldState → Type 0
+AreKept kind w = (number : ℕ) (s : StoreState) → store_at w.actors number ≡ Some s → IsKept kind (length w.turns) s
 
 -- ---- one turn
 
-one_later : (count : ℕ) (actors : List ActorState) (reader : ℕ) (item : Item) (number : ℕ) (s : StoreState)
-    → ((n : ℕ) (b : StoreState) → store_at actors n ≡ Some b → IsKept count b) → IsAfter actors reader item number s → IsKept (count + 1) s
-one_later count actors reader item number s h (inl same) =
+one_later : (kind : Kind) (count : ℕ) (actors : List ActorState) (reader : ℕ) (item : Item) (number : ℕ) (s : StoreState)
+    → ((n : ℕ) (b : StoreState) → store_at actors n ≡ Some b → IsKept kind count b) → IsAfter actors reader item number s → IsKept kind (count + 1) s
+one_later kind count actors reader item number s h (inl same) =
     let kept = h number s same in
     record { numbered = numbered_later count s kept.numbered; kind = kept.kind }
-one_later count actors reader item number s h (inr (is, before, was, after)) =
+one_later kind count actors reader item number s h (inr (is, before, was, after)) =
     let kept = h number before was in
-    subst (IsKept (count + 1)) (sym after)
+    subst (IsKept kind (count + 1)) (sym after)
     (record { numbered = numbers_stay_apart.turn count before item kept.numbered; kind = (turn_of_one before item).1 ∙ kept.kind })
 
-kept_of : (w : WorldState) (reader : ℕ) (others : List Stamped) (actor : ActorState) (m : TurnMade) → slice_get w.actors reader ≡ Some actor → AreKept w
-    → AreKept (turn_of w reader others actor m)
+kept_of : (kind : Kind) (w : WorldState) (reader : ℕ) (others : List Stamped) (actor : ActorState) (m : TurnMade) → slice_get w.actors reader ≡ Some actor → AreKept kind w
+    → AreKept kind (turn_of w reader others actor m)
 unfolding turn_of
-kept_of w reader others actor m e h number s is =
-    subst (λ count. IsKept count s) (sym (length_push w.turns (turn_done m)))
-    (one_later (length w.turns) w.actors reader m.taken.item number s h (actor_stepped w.actors reader actor m number s e is))
+kept_of kind w reader others actor m e h number s is =
+    subst (λ count. IsKept kind count s) (sym (length_push w.turns (turn_done m)))
+    (one_later kind (length w.turns) w.actors reader m.taken.item number s h (actor_stepped w.actors reader actor m number s e is))
 
-kept_by : (w : WorldState) (lane at reader : ℕ) (items : List Stamped) (actor : Option ActorState) → slice_get w.actors reader ≡ actor → AreKept w
-    → AreKept (turn_by w lane at reader items actor)
-kept_by w lane at reader [] actor e h = h
-kept_by w lane at reader (s ∷ others) None e h = h
-kept_by w lane at reader (s ∷ others) (Some actor) e h = kept_of w reader others actor (made_by w.actors actor lane at s) e h
+kept_by : (kind : Kind) (w : WorldState) (lane at reader : ℕ) (items : List Stamped) (actor : Option ActorState) → slice_get w.actors reader ≡ actor → AreKept kind w
+    → AreKept kind (turn_by w lane at reader items actor)
+kept_by kind w lane at reader [] actor e h = h
+kept_by kind w lane at reader (s ∷ others) None e h = h
+kept_by kind w lane at reader (s ∷ others) (Some actor) e h = kept_of kind w reader others actor (made_by w.actors actor lane at s) e h
 
-kept_turn : (w : WorldState) (lane at : ℕ) → AreKept w → AreKept (turn w lane at)
+kept_turn : (kind : Kind) (w : WorldState) (lane at : ℕ) → AreKept kind w → AreKept kind (turn w lane at)
 unfolding turn
-kept_turn w lane at h =
+kept_turn kind w lane at h =
     let reader = reader_of (slice_get w.wires lane) in
-    kept_by w lane at reader (waiting w lane) (slice_get w.actors reader) refl h
+    kept_by kind w lane at reader (waiting w lane) (slice_get w.actors reader) refl h
 
 -- ---- issues and settles
 
-kept_issue : (w : WorldState) (issues : List Output) → AreKept w → AreKept (issue w issues)
+kept_issue : (kind : Kind) (w : WorldState) (issues : List Output) → AreKept kind w → AreKept kind (issue w issues)
 unfolding issue
-kept_issue w issues h = h
+kept_issue kind w issues h = h
 
-kept_begin : (w : WorldState) (later : List Phase) → AreKept w → AreKept (begin w later)
-kept_begin w [] h = h
-kept_begin w (phase ∷ later) h = kept_issue w phase.issues h
+kept_begin : (kind : Kind) (w : WorldState) (later : List Phase) → AreKept kind w → AreKept kind (begin w later)
+kept_begin kind w [] h = h
+kept_begin kind w (phase ∷ later) h = kept_issue kind w phase.issues h
 
-kept_settle : (moment : ℕ) (asked : List ℕ) (w : WorldState) → AreKept w → AreKept (settle moment asked w)
-kept_settle moment asked w h number s is =
-    subst (λ turns. IsKept (length turns) s) (sym (turns_settled moment asked w)) (h number s (sym (stores_settled moment asked w number) ∙ is))
+kept_settle : (kind : Kind) (moment : ℕ) (asked : List ℕ) (w : WorldState) → AreKept kind w → AreKept kind (settle moment asked w)
+kept_settle kind moment asked w h number s is =
+    subst (λ turns. IsKept kind (length turns) s) (sym (turns_settled moment asked w)) (h number s (sym (stores_settled moment asked w number) ∙ is))
 
 -- ---- a run
 
-kept_start : (lab : Laboratory) → AreKept (start lab)
+kept_start : (lab : Laboratory) → AreKept lab.kind (start lab)
 kept_start lab number s is =
-    let new = starts_new (roles lab) number s is in
-    subst (IsKept 0) (sym new.1) (record { numbered = numbers_stay_apart.start Stores new.0; kind = refl })
+    let new = starts_new lab.kind (roles lab) number s is in
+    subst (IsKept lab.kind 0) (sym new.1) (record { numbered = numbers_stay_apart.start lab.kind new.0; kind = refl })
 
-pub kept_reached : (lab : Laboratory) {w : WorldState} {later : List Phase} → IsReached lab w later → AreKept w
-kept_reached lab starts = kept_begin (start lab) (phases lab) (kept_start lab)
-kept_reached lab (turns w phase later t before legal) = kept_turn w t.lane t.at (kept_reached lab before)
+pub kept_reached : (lab : Laboratory) {w : WorldState} {later : List Phase} → IsReached lab w later → AreKept lab.kind w
+kept_reached lab starts = kept_begin lab.kind (start lab) (phases lab) (kept_start lab)
+kept_reached lab (turns w phase later t before legal) = kept_turn lab.kind w t.lane t.at (kept_reached lab before)
 kept_reached lab (settles w phase later before drained) =
-    kept_begin (settle phase.moment (desks_asked phase.issues) w) later (kept_settle phase.moment (desks_asked phase.issues) w (kept_reached lab before))
+    kept_begin lab.kind (settle phase.moment (desks_asked phase.issues) w) later (kept_settle lab.kind phase.moment (desks_asked phase.issues) w (kept_reached lab before))
 
 pub runs_are_counted : RunsAreCounted
 runs_are_counted lab w later number s reached is =

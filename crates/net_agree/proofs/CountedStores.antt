@@ -4,14 +4,14 @@ use Rattle.std.specs.Prelude.{◌⊎◌, slice_get}
 use Rattle.std.proofs.lemmas.Bool.{cases_eq}
 use Rattle.std.proofs.lemmas.Option.{get_or_from_slice_get}
 use Rattle.or_base.specs.declared.item.Item.{Item}
-use Rattle.or_base.specs.declared.kind.Kind.TheVariants.{Stores}
+use Rattle.or_base.specs.declared.kind.Kind.{Kind}
 use Rattle.or_actor.specs.Steps.{TurnMade}
 use Rattle.kv_store.specs.Store.{StoreState, new_store, store_step}
-use Rattle.net_record.specs.declared.role.NodeModule.TheVariants.{Spark as SparkRole, Store as StoreRole, Desk as DeskRole}
+use Rattle.net_record.specs.declared.role.NodeModule.TheVariants.{Store as StoreRole}
 use Rattle.net_record.specs.declared.role.Role.{Role}
 use Rattle.net_record.specs.declared.role.Role.TheVariants.{Driver as DriverRole, Node, Link as LinkRole}
 use Rattle.net_record.specs.declared.kinds.AnyModule.{AnyModule}
-use Rattle.net_record.specs.declared.kinds.AnyModule.TheVariants.{Spark, Store, Link}
+use Rattle.net_record.specs.declared.kinds.AnyModule.TheVariants.{Store}
 use Rattle.net_record.specs.declared.part.Part.{Part}
 use Rattle.net_record.specs.declared.part.Part.TheVariants.{Driver, Desk, Module}
 use Rattle.net_record.specs.declared.actor.ActorState.{ActorState}
@@ -32,19 +32,18 @@ store_there w number s h = ap (λ (a : ActorState). store_of a.part) (get_or_fro
 
 -- ---- the start
 
-new_one : (role : Role) (s : StoreState) → store_of (new_part role) ≡ Some s → (me : List ℕ) × (s ≡ new_store Stores me)
-new_one DriverRole s e = absurd (cc e)
-new_one (Node SparkRole node setup) s e = absurd (cc e)
-new_one (Node StoreRole node setup) s e = (node, cc e)
-new_one (Node DeskRole node setup) s e = absurd (cc e)
-new_one (LinkRole link a b) s e = absurd (cc e)
+new_one : (kind : Kind) (role : Role) (s : StoreState) → store_of (new_part kind role) ≡ Some s → (me : List ℕ) × (s ≡ new_store kind me)
+new_one kind DriverRole s e = absurd (cc e)
+new_one kind (Node StoreRole node setup) s e = (node, cc e)
+new_one kind (Node _ node setup) s e = absurd (cc e)
+new_one kind (LinkRole link a b) s e = absurd (cc e)
 
 -- each store is as it starts
-pub starts_new : (all : List Role) (number : ℕ) (s : StoreState) → store_at (map new_actor all) number ≡ Some s → (me : List ℕ) × (s ≡ new_store Stores me)
-starts_new [] zero s e = absurd (cc e)
-starts_new [] (suc number) s e = absurd (cc e)
-starts_new (role ∷ all) zero s e = new_one role s e
-starts_new (role ∷ all) (suc number) s e = starts_new all number s e
+pub starts_new : (kind : Kind) (all : List Role) (number : ℕ) (s : StoreState) → store_at (map (new_actor kind) all) number ≡ Some s → (me : List ℕ) × (s ≡ new_store kind me)
+starts_new kind [] zero s e = absurd (cc e)
+starts_new kind [] (suc number) s e = absurd (cc e)
+starts_new kind (role ∷ all) zero s e = new_one kind role s e
+starts_new kind (role ∷ all) (suc number) s e = starts_new kind all number s e
 
 -- ---- one turn
 
@@ -56,11 +55,10 @@ IsAfter actors reader item number s =
 module_after : (m : AnyModule) (lane : ℕ) (item : Item) (s : StoreState) → store_in (module_step m lane item).0 ≡ Some s
     → (before : StoreState) × (store_in m ≡ Some before) × (s ≡ (store_step before item).0)
 unfolding module_step
-module_after (Spark b) lane item s e = absurd (cc e)
 module_after (Store b) lane item s e = (b, refl, cc e)
-module_after (Link l) lane item s e = absurd (cc e)
+module_after _ lane item s e = absurd (cc e)
 
-part_after : (part : Part) (lane : ℕ) (item : Item) (at : ℕ) (s : StoreState) → store_of (part_step part lane item at).0 ≡ Some s
+pub part_after : (part : Part) (lane : ℕ) (item : Item) (at : ℕ) (s : StoreState) → store_of (part_step part lane item at).0 ≡ Some s
     → (before : StoreState) × (store_of part ≡ Some before) × (s ≡ (store_step before item).0)
 unfolding part_step
 part_after Driver lane item at s e = absurd (cc e)

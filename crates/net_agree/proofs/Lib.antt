@@ -1,4 +1,5 @@
 pub mod Sparks
+pub mod Advertisers
 pub mod RoutedStores
 pub mod RoutedLanes
 pub mod RoutedSends

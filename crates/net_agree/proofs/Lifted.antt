@@ -10,7 +10,7 @@ use Rattle.std.proofs.lemmas.List.{get_or_past, length_push}
 use Rattle.std.proofs.lemmas.List.Elements.{Contains-append_cases, Contains-append_left, Contains-append_right, All-contains}
 use Rattle.std.proofs.lemmas.Option.{slice_get-get_or}
 use Rattle.or_base.specs.declared.item.Stamped.{Stamped}
-use Rattle.or_base.specs.declared.kind.Kind.TheVariants.{Stores}
+use Rattle.or_base.specs.declared.kind.Kind.{Kind}
 use Rattle.or_base.specs.declared.message.Msg.{Msg}
 use Rattle.or_base.proofs.Members.{Contains-first}
 use Rattle.or_actor.specs.declared.output.Output.{Output}
@@ -23,7 +23,7 @@ use Rattle.net_laboratory.specs.Scenario.{Laboratory}
 use Rattle.net_laboratory.specs.Sound.{is_sound}
 use Rattle.net_link.specs.Link.{LinkState, new_link}
 use Rattle.net_link.specs.Flow.{held_of}
-use Rattle.net_record.specs.declared.role.NodeModule.TheVariants.{Spark as SparkRole, Store as StoreRole, Desk as DeskRole}
+use Rattle.net_record.specs.declared.role.NodeModule.TheVariants.{Desk as DeskRole}
 use Rattle.net_record.specs.declared.role.Role.{Role}
 use Rattle.net_record.specs.declared.role.Role.TheVariants.{Driver as DriverRole, Node, Link as LinkRole}
 use Rattle.net_record.specs.declared.part.Part.{Part}
@@ -179,10 +179,10 @@ settle_no_more moment asked w =
 
 -- ---- the start
 
-store_new : (lab : Laboratory) (number : ℕ) (s : StoreState) → IsStoreAt (start lab) number s → s ≡ new_store Stores s.me
+store_new : (lab : Laboratory) (number : ℕ) (s : StoreState) → IsStoreAt (start lab) number s → s ≡ new_store lab.kind s.me
 store_new lab number s x =
-    let new = starts_new (roles lab) number s (store_there (start lab) number s x) in
-    new.1 ∙ ap (λ (t : StoreState). new_store Stores t.me) (sym new.1)
+    let new = starts_new lab.kind (roles lab) number s (store_there (start lab) number s x) in
+    new.1 ∙ ap (λ (t : StoreState). new_store lab.kind t.me) (sym new.1)
 
 none_either : (test other : Bool) (msg : Msg) → Contains ((if test then [] else []) ++ (if other then [] else [])) msg → ⊥
 none_either true true msg h = omega (arith, h.1)
@@ -194,19 +194,18 @@ none_held_if : (test : Bool) (held : List Msg) (msg : Msg) → (Contains held ms
 none_held_if true held msg none h = none h
 none_held_if false held msg none h = omega (arith, h.1)
 
-none_held : (link : ℕ) (node : List ℕ) (msg : Msg) (role : Role) → Contains (held_by link node (new_actor role)) msg → ⊥
-none_held link node msg DriverRole h = omega (arith, h.1)
-none_held link node msg (Node SparkRole name setup) h = omega (arith, h.1)
-none_held link node msg (Node StoreRole name setup) h = omega (arith, h.1)
-none_held link node msg (Node DeskRole name setup) h = omega (arith, h.1)
-none_held link node msg (LinkRole l a b) h = none_held_if _ (held_of (new_link Stores l a b) node) msg (none_either _ _ msg) h
+none_held : (kind : Kind) (link : ℕ) (node : List ℕ) (msg : Msg) (role : Role) → Contains (held_by link node (new_actor kind role)) msg → ⊥
+none_held kind link node msg DriverRole h = omega (arith, h.1)
+none_held kind link node msg (LinkRole l a b) h = none_held_if _ (held_of (new_link kind l a b) node) msg (none_either _ _ msg) h
+none_held kind link node msg (Node DeskRole name setup) h = omega (arith, h.1)
+none_held kind link node msg (Node _ name setup) h = omega (arith, h.1)
 
-none_by_new : (link : ℕ) (node : List ℕ) (msg : Msg) (all : List Role) → Contains (flat_map (held_by link node) (map new_actor all)) msg → ⊥
-none_by_new link node msg [] h = omega (arith, h.1)
-none_by_new link node msg (role ∷ all) h =
-    elim (Contains-append_cases (held_by link node (new_actor role)) (flat_map (held_by link node) (map new_actor all)) msg h) [
-      | inl here ↦ none_held link node msg role here
-      | inr later ↦ none_by_new link node msg all later
+none_by_new : (kind : Kind) (link : ℕ) (node : List ℕ) (msg : Msg) (all : List Role) → Contains (flat_map (held_by link node) (map (new_actor kind) all)) msg → ⊥
+none_by_new kind link node msg [] h = omega (arith, h.1)
+none_by_new kind link node msg (role ∷ all) h =
+    elim (Contains-append_cases (held_by link node (new_actor kind role)) (flat_map (held_by link node) (map (new_actor kind) all)) msg h) [
+      | inl here ↦ none_held kind link node msg role here
+      | inr later ↦ none_by_new kind link node msg all later
     ]
 
 none_waits : (link : ℕ) (node : List ℕ) (msg : Msg) (n : ℕ) → Contains (flat_map (messages_in link node) (replicate n [])) msg → ⊥
@@ -217,7 +216,7 @@ none_on_way : (lab : Laboratory) (link : ℕ) (node : List ℕ) (msg : Msg) → 
 none_on_way lab link node msg h =
     elim (Contains-append_cases (flat_map (messages_in link node) (start lab).lanes) (flat_map (held_by link node) (start lab).actors) msg h) [
       | inl lanes ↦ absurd (none_waits link node msg (length (wires (roles lab))) lanes)
-      | inr held ↦ absurd (none_by_new link node msg (roles lab) held)
+      | inr held ↦ absurd (none_by_new lab.kind link node msg (roles lab) held)
     ]
 
 lifted_start : (lab : Laboratory) → StaysPaired → IsLifted (start lab) lab
@@ -226,10 +225,10 @@ lifted_start lab stays = record {
       let is = store_new lab number s x in
       ap (λ kind. new_store kind s.me) (ap (λ (u : StoreState). u.kind) is) ∙ sym is;
   paired = λ link x y s t at_x at_y ends.
-      let kind_s : s.kind ≡ Stores = ap (λ (u : StoreState). u.kind) (store_new lab x s at_x) in
-      let kind_t : t.kind ≡ Stores = ap (λ (u : StoreState). u.kind) (store_new lab y t at_y) in
-      let paired = stays.starts link Stores s.me t.me in
-      let of_s = subst (λ kind. IsPaired link (new_traced kind s.me) (new_traced Stores t.me) [] []) (sym kind_s) paired in
+      let kind_s : s.kind ≡ lab.kind = ap (λ (u : StoreState). u.kind) (store_new lab x s at_x) in
+      let kind_t : t.kind ≡ lab.kind = ap (λ (u : StoreState). u.kind) (store_new lab y t at_y) in
+      let paired = stays.starts link lab.kind s.me t.me in
+      let of_s = subst (λ kind. IsPaired link (new_traced kind s.me) (new_traced lab.kind t.me) [] []) (sym kind_s) paired in
       let of_t = subst (λ kind. IsPaired link (new_traced s.kind s.me) (new_traced kind t.me) [] []) (sym kind_t) of_s in
       stays.fewer link (trace_at (start lab) x s) (trace_at (start lab) y t) [] [] (on_way (start lab) link s.me) (on_way (start lab) link t.me)
       (none_on_way lab link s.me) (none_on_way lab link t.me) of_t;

@@ -10,12 +10,12 @@ use Rattle.kv_agree.specs.Traced.{carried_by}
 use Rattle.kv_agree.proofs.Lists.{all_joined}
 use Rattle.net_laboratory.specs.declared.declared.LinkDecl.{LinkDecl}
 use Rattle.net_laboratory.specs.declared.command.Command.{Command}
-use Rattle.net_laboratory.specs.declared.command.Command.TheVariants.{Settle, Tick, Set, Own, Disown, Sync, Restart, Up, Down, Script, Get, Drain, LinkDrain, Metric, Advertise, Withdraw, Aggregate, Ask}
+use Rattle.net_laboratory.specs.declared.command.Command.TheVariants.{Settle, Tick, Restart, Aggregate, Ask}
 use Rattle.net_laboratory.specs.Scenario.{Laboratory}
 use Rattle.net_record.specs.declared.role.Role.{Role}
 use Rattle.net_record.specs.declared.phase.Phase.{Phase}
 use Rattle.net_record.specs.Roles.{roles, link_number}
-use Rattle.net_record.specs.Phases.{ups, takes_ticks, tick_for, ticks, issues_of, moment_after, phases_from, phases}
+use Rattle.net_record.specs.Phases.{ups, takes_ticks, tick_for, ticks, restarts_with, restart_for, restarts, issues_of, moment_after, phases_from, phases}
 use Rattle.net_agree.proofs.LiftedLists.{all_given, all_if}
 use Rattle.net_agree.proofs.LiftedWay.{IsAmong}
 
@@ -33,26 +33,18 @@ ticks_none : (all : List Role) (at : ℕ) → BringNone (ticks all at)
 ticks_none all at =
     all_given IsNoMessage (tick_for at) (enumerate_from 0 all) (λ actor. all_if IsNoMessage (takes_ticks actor.1) (To actor.0 (item.Tick at) ∷ []) (refl, tt))
 
+restarts_none : (all : List Role) (name : List ℕ) → BringNone (restarts all name)
+restarts_none all name =
+    all_given IsNoMessage (restart_for name) (enumerate_from 0 all) (λ actor. all_if IsNoMessage (restarts_with name actor.1) (To actor.0 item.Restart ∷ []) (refl, tt))
+
 issues_none : (all : List Role) (command : Command) → BringNone (issues_of all command)
 unfolding issues_of
-issues_none all (Settle rounds show) = tt
 issues_none all (Tick to) = ticks_none all to
-issues_none all (Set node pair) = (refl, tt)
-issues_none all (Sync node link) = (refl, tt)
-issues_none all (Restart node) = (refl, tt)
-issues_none all (Up link) = (refl, tt)
-issues_none all (Down link) = (refl, tt)
-issues_none all (Script link from acts) = (refl, tt)
-issues_none all (Get node key) = (refl, tt)
-issues_none all (Own node key value ttl) = (refl, tt)
-issues_none all (Disown node key) = (refl, tt)
-issues_none all (Drain node on) = tt
-issues_none all (LinkDrain node link on) = tt
-issues_none all (Metric node link metric) = tt
-issues_none all (Advertise node entry) = tt
-issues_none all (Withdraw node prefix) = tt
+issues_none all (Restart node) = restarts_none all node
+issues_none all (Settle rounds show) = tt
 issues_none all (Aggregate node prefix least) = tt
 issues_none all (Ask node prefix) = tt
+issues_none all _ = (refl, tt)
 
 abbrev pub PhasesBringNone : List Phase → Type 0
 PhasesBringNone all = AllByRecursion (λ (phase : Phase). BringNone phase.issues) all

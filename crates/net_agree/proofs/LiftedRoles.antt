@@ -1,5 +1,5 @@
 -- In a sound laboratory a node has one store, and a link one pair of ends, which differ.
-use Rattle.std.proofs.Common.{◌≡◌, ℕ, zero, suc, ◌+◌, ◌≤◌, List, [], ◌∷◌, ◌++◌, Some, Bool, true, false, ◌&&◌, ◌||◌, map, inl, inr, refl, sym, ◌∙◌, ap, subst, arith}
+use Rattle.std.proofs.Common.{◌≡◌, ℕ, zero, suc, ◌+◌, ◌≤◌, List, [], ◌∷◌, ◌++◌, Option, Some, Bool, true, false, ◌&&◌, ◌||◌, map, inl, inr, refl, sym, ◌∙◌, ap, subst, arith}
 use Rattle.std.specs.Prelude.{slice_get, option_map}
 use Rattle.std.specs.Str.{bytes_eq}
 use Rattle.std.specs.List.{Contains, flat_map, enumerate_from, list_any}
@@ -108,9 +108,9 @@ same_name a b = (bytes_eq-Decides a b).0
 name_itself : (a : List ℕ) → bytes_eq a a ≡ true
 name_itself a = (bytes_eq-Decides a a).1 refl
 
-module _ (name : List ℕ) (modules : List NodeModule) (links : List LinkDecl) (one : HaveOneStore modules) where
+module _ (name : List ℕ) (modules : List NodeModule) (links : List LinkDecl) (ttl : Option ℕ) (one : HaveOneStore modules) where
   abbrev NodesFrom : ℕ → List NodeDecl → List Role
-  NodesFrom first nodes = flat_map (node_roles modules links) (enumerate_from first nodes)
+  NodesFrom first nodes = flat_map (node_roles modules links ttl) (enumerate_from first nodes)
 
   abbrev is_named : NodeDecl → Bool
   is_named node = bytes_eq node.name name
@@ -130,15 +130,15 @@ module _ (name : List ℕ) (modules : List NodeModule) (links : List LinkDecl) (
       list_any-append is_named before (node ∷ []) ∙ ap (λ b. is_declared before name || (b || false)) same ∙ or_true (is_declared before name)
 
   block_is : (first : ℕ) (node : NodeDecl) (nodes : List NodeDecl)
-      → stores_named name (NodesFrom first (node ∷ nodes)) ≡ stores_named name (node_roles modules links (first, node)) + stores_named name (NodesFrom (first + 1) nodes)
-  block_is first node nodes = stores_named-both name (node_roles modules links (first, node)) (NodesFrom (first + 1) nodes)
+      → stores_named name (NodesFrom first (node ∷ nodes)) ≡ stores_named name (node_roles modules links ttl (first, node)) + stores_named name (NodesFrom (first + 1) nodes)
+  block_is first node nodes = stores_named-both name (node_roles modules links ttl (first, node)) (NodesFrom (first + 1) nodes)
 
   -- behind the node of that name there is none
   none_behind : (before nodes : List NodeDecl) (first : ℕ) → are_admitted admits_node before nodes ≡ true → is_declared before name ≡ true → stores_named name (NodesFrom first nodes) ≡ 0
   none_behind before [] first admitted declared = refl
   none_behind before (node ∷ nodes) first admitted declared =
       let parts = and_parts (admits_node before node) (are_admitted admits_node (before ++ node ∷ []) nodes) admitted in
-      let here = none_elsewhere name node.name (setup_at modules links first node) modules (other_than before node parts.0 declared) in
+      let here = none_elsewhere name node.name (setup_at modules links ttl first node) modules (other_than before node parts.0 declared) in
       let later = none_behind (before ++ node ∷ []) nodes (first + 1) parts.1 (declared_later before node declared) in
       omega (arith, block_is first node nodes, here, later)
 
@@ -148,11 +148,11 @@ module _ (name : List ℕ) (modules : List NodeModule) (links : List LinkDecl) (
       let parts = and_parts (admits_node before node) (are_admitted admits_node (before ++ node ∷ []) nodes) admitted in
       elim (cases_Bool (bytes_eq node.name name)) [
         | inl same ↦
-            let here = ap how_many (same_here name node.name (setup_at modules links first node) modules same) in
+            let here = ap how_many (same_here name node.name (setup_at modules links ttl first node) modules same) in
             let later = none_behind (before ++ node ∷ []) nodes (first + 1) parts.1 (declared_last before node same) in
             omega (arith, block_is first node nodes, here, one, later)
         | inr other ↦
-            let here = none_elsewhere name node.name (setup_at modules links first node) modules other in
+            let here = none_elsewhere name node.name (setup_at modules links ttl first node) modules other in
             let later = one_named (before ++ node ∷ []) nodes (first + 1) parts.1 in
             omega (arith, block_is first node nodes, here, later)
       ]
@@ -163,9 +163,9 @@ no_store_link name first (link ∷ links) = no_store_link name (first + 1) links
 
 stores_in : (lab : Laboratory) (name : List ℕ) → is_sound lab ≡ true → stores_named name (roles lab) ≤ 1
 stores_in lab name sound =
-    let nodes = flat_map (node_roles (modules_of lab.kind) lab.links) (enumerate_from 0 lab.nodes) in
+    let nodes = flat_map (node_roles (modules_of lab.kind) lab.links lab.ttl) (enumerate_from 0 lab.nodes) in
     let both = stores_named-both name nodes (map link_role (enumerate_from 0 lab.links)) in
-    let one = one_named name (modules_of lab.kind) lab.links (one_store lab.kind) [] lab.nodes 0 (sound_nodes lab sound) in
+    let one = one_named name (modules_of lab.kind) lab.links lab.ttl (one_store lab.kind) [] lab.nodes 0 (sound_nodes lab sound) in
     omega (arith, both, one, no_store_link name 0 lab.links)
 
 role_named : (all : List Role) (x : ℕ) (setup : NodeSetup) (name : List ℕ) → slice_get all x ≡ Some (Node StoreRole name setup) → slice_get (map (is_module StoreRole name) all) x ≡ Some true
@@ -209,23 +209,23 @@ no_link_in (m ∷ modules) node setup l a b h =
       not_link : Node m node setup ≡ LinkRole l a b → ⊥
       not_link same = cc
 
-no_link_among : (modules : List NodeModule) (links : List LinkDecl) (nodes : List NodeDecl) (first l : ℕ) (a b : List ℕ) → Contains (flat_map (node_roles modules links) (enumerate_from first nodes)) (LinkRole l a b) → ⊥
-no_link_among modules links [] first l a b h = omega (arith, h.1)
-no_link_among modules links (node ∷ nodes) first l a b h =
-    elim (Contains-append_cases (node_roles modules links (first, node)) (flat_map (node_roles modules links) (enumerate_from (first + 1) nodes)) (LinkRole l a b) h) [
+no_link_among : (modules : List NodeModule) (links : List LinkDecl) (ttl : Option ℕ) (nodes : List NodeDecl) (first l : ℕ) (a b : List ℕ) → Contains (flat_map (node_roles modules links ttl) (enumerate_from first nodes)) (LinkRole l a b) → ⊥
+no_link_among modules links ttl [] first l a b h = omega (arith, h.1)
+no_link_among modules links ttl (node ∷ nodes) first l a b h =
+    elim (Contains-append_cases (node_roles modules links ttl (first, node)) (flat_map (node_roles modules links ttl) (enumerate_from (first + 1) nodes)) (LinkRole l a b) h) [
       | inl here ↦ no_link_in modules node.name _ l a b here
-      | inr later ↦ no_link_among modules links nodes (first + 1) l a b later
+      | inr later ↦ no_link_among modules links ttl nodes (first + 1) l a b later
     ]
 
 role_link : (lab : Laboratory) (l : ℕ) (a b : List ℕ) → Contains (roles lab) (LinkRole l a b) → IsLinkOf lab.links 0 l a b
 role_link lab l a b h =
-    let nodes = flat_map (node_roles (modules_of lab.kind) lab.links) (enumerate_from 0 lab.nodes) in
+    let nodes = flat_map (node_roles (modules_of lab.kind) lab.links lab.ttl) (enumerate_from 0 lab.nodes) in
     let links = map link_role (enumerate_from 0 lab.links) in
     elim (Contains-cases DriverRole (nodes ++ links) (LinkRole l a b) h) [
       | inl same ↦ absurd (not_driver same)
       | inr later ↦
           elim (Contains-append_cases nodes links (LinkRole l a b) later) [
-            | inl among ↦ absurd (no_link_among (modules_of lab.kind) lab.links lab.nodes 0 l a b among)
+            | inl among ↦ absurd (no_link_among (modules_of lab.kind) lab.links lab.ttl lab.nodes 0 l a b among)
             | inr found ↦ link_found lab.links 0 l a b found
           ]
     ] where

@@ -10,15 +10,12 @@ use Rattle.or_base.specs.TurnDone.{TurnDone}
 use Rattle.or_actor.specs.Steps.{TurnMade, turn_done}
 use Rattle.kv_store.specs.Store.{StoreState, store_step}
 use Rattle.kv_agree.specs.Traced.{TracedStore, new_traced, traced_step, traced_after}
-use Rattle.net_record.specs.declared.kinds.AnyModule.TheVariants.{Spark, Store, Link}
-use Rattle.net_record.specs.declared.part.Part.{Part}
-use Rattle.net_record.specs.declared.part.Part.TheVariants.{Driver, Desk, Module}
 use Rattle.net_record.specs.declared.actor.ActorState.{ActorState}
-use Rattle.net_record.specs.Kinds.{module_step}
-use Rattle.net_record.specs.Actors.{store_of, part_step, actor_after}
+use Rattle.net_record.specs.Actors.{store_of, actor_after}
 use Rattle.net_record.specs.World.{WorldState, turn_of, reader_of}
 use Rattle.net_agree.specs.Routed.{IsStoreAt}
 use Rattle.net_agree.specs.Lifted.{taken_by, trace_at}
+use Rattle.net_agree.proofs.CountedStores.{part_after}
 use Rattle.net_agree.proofs.LiftedLists.{some_is}
 use Rattle.net_agree.proofs.LiftedSends.{AreOfOne, turn_of_one}
 
@@ -38,19 +35,10 @@ get_set_other (y ∷ xs) (suc i) (suc j) x other = get_set_other xs i j x (λ sa
 
 -- ---- one actor
 
-part_store : (part : Part) (lane : ℕ) (item : Item) (at : ℕ) (s : StoreState) → store_of (part_step part lane item at).0 ≡ Some s
-    → (before : StoreState) × (store_of part ≡ Some before) × (s ≡ (store_step before item).0)
-unfolding part_step module_step
-part_store Driver lane item at s e = cc
-part_store (Desk d) lane item at s e = cc
-part_store (Module (Spark p)) lane item at s e = cc
-part_store (Module (Store before)) lane item at s e = (before, refl, sym (some_is e))
-part_store (Module (Link l)) lane item at s e = cc
-
 after_store : (actor : ActorState) (m : TurnMade) (s : StoreState) → store_of (actor_after actor m).part ≡ Some s
     → (before : StoreState) × (store_of actor.part ≡ Some before) × (s ≡ (store_step before m.taken.item).0)
 unfolding actor_after
-after_store actor m s e = part_store actor.part m.lane m.taken.item m.at s e
+after_store actor m s e = part_after actor.part m.lane m.taken.item m.at s e
 
 -- one actor is one store
 pub same_store : (w : WorldState) (number : ℕ) (s t : StoreState) → IsStoreAt w number s → IsStoreAt w number t → s ≡ t

@@ -22,7 +22,7 @@ use Rattle.net_record.specs.declared.role.NodeModule.TheVariants.{Store as Store
 use Rattle.net_record.specs.declared.role.NodeSetup.{NodeSetup}
 use Rattle.net_record.specs.declared.role.Role.{Role}
 use Rattle.net_record.specs.declared.role.Role.TheVariants.{Driver as DriverRole, Node, Link as LinkRole}
-use Rattle.net_record.specs.declared.kinds.AnyModule.TheVariants.{Spark, Store, Link}
+use Rattle.net_record.specs.declared.kinds.AnyModule.TheVariants.{Store, Link}
 use Rattle.net_record.specs.declared.part.Part.{Part}
 use Rattle.net_record.specs.declared.part.Part.TheVariants.{Driver, Desk, Module}
 use Rattle.net_record.specs.declared.actor.ActorState.{ActorState}
@@ -42,16 +42,14 @@ use Rattle.net_agree.proofs.LiftedTaken.{same_store, HadTurn, HadNone, IsAfterTu
 store_role : (part : Part) (role : Role) (s : StoreState) → store_of part ≡ Some s → IsOf part role → (setup : NodeSetup) × (role ≡ Node StoreRole s.me setup)
 store_role Driver role s e of_role = cc
 store_role (Desk d) role s e of_role = cc
-store_role (Module (Spark p)) role s e of_role = cc
 store_role (Module (Store t)) role s e of_role = (of_role.0, of_role.1 ∙ ap (λ (u : StoreState). Node StoreRole u.me of_role.0) (some_is e))
-store_role (Module (Link l)) role s e of_role = cc
+store_role (Module _) role s e of_role = cc
 
 pub link_role_of : (part : Part) (role : Role) (l : LinkState) → link_of part ≡ Some l → IsOf part role → role ≡ LinkRole l.link l.a l.b
 link_role_of Driver role l e of_role = cc
 link_role_of (Desk d) role l e of_role = cc
-link_role_of (Module (Spark p)) role l e of_role = cc
-link_role_of (Module (Store t)) role l e of_role = cc
 link_role_of (Module (Link k)) role l e of_role = of_role ∙ ap (λ (u : LinkState). LinkRole u.link u.a u.b) (some_is e)
+link_role_of (Module _) role l e of_role = cc
 
 -- each actor has a role
 pub role_there : (all : List Role) (w : WorldState) (number : ℕ) (actor : ActorState) → IsRouted all w → slice_get w.actors number ≡ Some actor

@@ -16,13 +16,16 @@ use Rattle.or_actor.specs.declared.output.Output.{Output}
 use Rattle.or_actor.specs.declared.output.Output.TheVariants.{To}
 use Rattle.or_actor.specs.Ports.{first_link_port}
 use Rattle.or_actor.specs.Steps.{TurnMade}
+use Rattle.link_monitor.specs.LinkMonitor.{link_monitor_step}
+use Rattle.prefix_manager.specs.PrefixManager.{prefix_manager_step}
+use Rattle.decision_core.specs.Decision.{decision_step}
 use Rattle.kv_store.specs.Store.{StoreState, store_step}
 use Rattle.kv_agree.specs.Traced.{carried_by}
 use Rattle.kv_agree.proofs.Lists.{contains_at}
 use Rattle.net_link.specs.Link.{LinkState, link_step}
 use Rattle.net_link.specs.Flow.{held_of, WasThere}
 use Rattle.net_link.proofs.Flow.{links_make_nothing_up}
-use Rattle.net_record.specs.declared.kinds.AnyModule.TheVariants.{Spark, Store, Link}
+use Rattle.net_record.specs.declared.kinds.AnyModule.TheVariants.{Spark, LinkMonitor, PrefixManager, Store, Decision, Fib, Link}
 use Rattle.net_record.specs.declared.part.Part.{Part}
 use Rattle.net_record.specs.declared.part.Part.TheVariants.{Driver, Desk, Module}
 use Rattle.net_record.specs.declared.actor.ActorState.{ActorState}
@@ -34,7 +37,8 @@ use Rattle.net_record.specs.World.{WorldState, waiting, put, deliver, turn_of}
 use Rattle.net_agree.specs.Lifted.{message_if, messages_in, link_of, held_on, on_way}
 use Rattle.net_agree.proofs.LiftedLists.{set_gives, gives_at, gives_or, gives_both}
 use Rattle.net_agree.proofs.LiftedSends.{sent_own}
-use Rattle.net_agree.proofs.Sparks.{is_of_spark, sent_by_spark}
+use Rattle.net_agree.proofs.Advertisers.{told_no_message, link_monitor_sends, prefix_manager_sends}
+use Rattle.net_agree.proofs.Sparks.{is_of_spark, Anybody, sent_by_spark}
 
 -- ---- the message of an item
 
@@ -140,20 +144,25 @@ part_holds : (part : Part) (lane : ℕ) (item : Item) (at link : ℕ) (node : Li
 unfolding part_step module_step
 part_holds Driver lane item at link node msg h = absurd (omega (arith, h.1))
 part_holds (Desk d) lane item at link node msg h = absurd (omega (arith, h.1))
-part_holds (Module (Spark s)) lane item at link node msg h = absurd (omega (arith, h.1))
-part_holds (Module (Store s)) lane item at link node msg h = absurd (omega (arith, h.1))
 part_holds (Module (Link s)) lane item at link node msg h =
     let after = (link_step s item).0 in
     let held = held_if (after.link == link) (held_of after node) msg h in
     let law = links_make_nothing_up s item in
     record { state = s; is = refl; number = sym law.link ∙ eqb-true after.link link held.0; was = law.held node msg held.1 }
+part_holds (Module _) lane item at link node msg h = absurd (omega (arith, h.1))
 
 part_sends : (part : Part) (lane : ℕ) (item : Item) (at port link : ℕ) (node : List ℕ) (msg : Msg) → is_of_spark msg ≡ false → Contains (part_step part lane item at).1 (To port (Net link node msg))
     → IsSentBy part item link node msg ⊎ IsOfLink part item link node msg
-unfolding part_step module_step
+unfolding part_step module_step decision_step
 part_sends Driver lane item at port link node msg stores h = absurd (omega (arith, h.1))
 part_sends (Desk d) lane item at port link node msg stores h = absurd (omega (arith, h.1))
 part_sends (Module (Spark s)) lane item at port link node msg stores h = absurd (false≢true (sym stores ∙ sent_by_spark s item port link node msg h))
+part_sends (Module (LinkMonitor s)) lane item at port link node msg stores h =
+    absurd (told_no_message Anybody (link_monitor_step s item).1 port link node msg (link_monitor_sends Anybody s item (λ l peer peer_if brings. tt)) h)
+part_sends (Module (PrefixManager s)) lane item at port link node msg stores h =
+    absurd (told_no_message Anybody (prefix_manager_step s item).1 port link node msg (prefix_manager_sends Anybody s item) h)
+part_sends (Module (Decision s)) lane item at port link node msg stores h = absurd (omega (arith, h.1))
+part_sends (Module (Fib s)) lane item at port link node msg stores h = absurd (omega (arith, h.1))
 part_sends (Module (Store s)) lane item at port link node msg stores h =
     let own = sent_own s item port link node msg h in
     inl (record { store = s; is = refl; me = sym own.0; sent = subst (λ p. Contains (store_step s item).1 (To p (Net link node msg))) own.1 h })

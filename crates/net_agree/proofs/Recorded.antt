@@ -6,7 +6,6 @@ use Rattle.std.proofs.lemmas.Option.{get_or_from_slice_get, slice_get-map}
 use Rattle.std.proofs.Math.Seq.{drop-append_seam, take-nil}
 use Rattle.or_base.specs.declared.entry.JournalEntry.{JournalEntry}
 use Rattle.or_base.specs.declared.kind.Kind.{Kind}
-use Rattle.or_base.specs.declared.kind.Kind.TheVariants.{Stores}
 use Rattle.kv_store.specs.Store.{StoreState, new_store}
 use Rattle.kv_agree.specs.Traced.{new_traced, traced_after}
 use Rattle.kv_agree.specs.Joined.{StoreSeen, QuietlyAgree, AgreeAfterOneRound}
@@ -86,9 +85,9 @@ front_in (mark ∷ marks) (journal ∷ journals) (suc place) = front_in marks jo
 
 -- ---- the store in a place
 
-kind_of : (store : Option StoreState) → ((s : StoreState) → store ≡ Some s → s.kind ≡ Stores) → (unwrap_or store (new_store Stores [])).kind ≡ Stores
-kind_of None each = refl
-kind_of (Some s) each = each s refl
+kind_of : (kind : Kind) (store : Option StoreState) → ((s : StoreState) → store ≡ Some s → s.kind ≡ kind) → (unwrap_or store (new_store kind [])).kind ≡ kind
+kind_of kind None each = refl
+kind_of kind (Some s) each = each s refl
 
 -- a store in a world as a settle sees it, by its name and its number
 abbrev store_as_seen : WorldState → List ℕ → ℕ → ActorState → StoreState → StoreSeen
@@ -105,7 +104,7 @@ module _ (lab : Laboratory) (done : Record) (before : List SettleDone) (s : Sett
   abbrev seen_there : ℕ × NodeDecl → StoreSeen
   seen_there n =
       let number = store_number (modules_of lab.kind) n.0 in
-      store_as_seen h.world n.1.name number (actor_at h.world.actors number) (store_in_place h.world.actors number)
+      store_as_seen h.world n.1.name number (actor_at h.world.actors number) (store_in_place lab.kind h.world.actors number)
 
   -- what a settle tells of the store of a node is what that store was
   told_is_seen : (place : ℕ) (node : NodeDecl) → slice_get lab.nodes place ≡ Some node → store_recorded lab done before s place ≡ seen_there (place, node)
@@ -115,11 +114,11 @@ module _ (lab : Laboratory) (done : Record) (before : List SettleDone) (s : Sett
       let r = runs_are_routed lab w (h.phase ∷ h.later) h.reached in
       let number = store_number (modules_of lab.kind) place in
       let is = teller_is lab w place node r there in
-      let kind = kind_of (store_of (actor_at actors number).part) (λ t at. (kept_reached lab h.reached number t at).kind) in
-      let journal : take (get_or s.nodes place no_mark).entries (get_or done.journals place []) ≡ (store_in_place actors number).journal =
+      let kind = kind_of lab.kind (store_of (actor_at actors number).part) (λ t at. (kept_reached lab h.reached number t at).kind) in
+      let journal : take (get_or s.nodes place no_mark).entries (get_or done.journals place []) ≡ (store_in_place lab.kind actors number).journal =
       sym (front_in s.nodes done.journals place) ∙ ap (λ js. get_or js place []) (sym h.stores) ∙ journal_in actors place
       ∙ ap (λ (t : StoreState). t.journal) is in
-      let syncs : syncs_told place (before ++ s ∷ []) ≡ (store_in_place actors number).done =
+      let syncs : syncs_told place (before ++ s ∷ []) ≡ (store_in_place lab.kind actors number).done =
       ap (λ (ss : List SettleDone). syncs_told place (ss ++ s ∷ [])) (sym h.settles)
       ∙ all_told w s place (ap (λ (d : SettleDone). d.nodes) h.tells) (told_reached lab h.reached) ∙ ap (λ (t : StoreState). t.done) is in
       rw (name_in lab place node there, journal, syncs, ← h.turns, ← r.lanes)
@@ -128,9 +127,9 @@ module _ (lab : Laboratory) (done : Record) (before : List SettleDone) (s : Sett
       let t : StoreSeen =
       record {
         name = node.name;
-        journal = (store_in_place actors number).journal;
+        journal = (store_in_place lab.kind actors number).journal;
         makers = (traced_after (new_traced k node.name) (taken_by w number)).makers;
-        syncs = (store_in_place actors number).done;
+        syncs = (store_in_place lab.kind actors number).done;
       } in
       t)
       (sym kind))

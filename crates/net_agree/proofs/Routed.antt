@@ -8,14 +8,18 @@ use Rattle.std.proofs.lemmas.List.Elements.{All-contains, All-from_recursion}
 use Rattle.std.proofs.lemmas.Option.{none-some, same_Some, slice_get-get_or, slice_get_within}
 use Rattle.or_base.specs.declared.item.Item.{Item}
 use Rattle.or_base.specs.declared.item.Stamped.{Stamped}
+use Rattle.or_base.specs.declared.kind.Kind.{Kind}
 use Rattle.or_base.proofs.Members.{Contains-first, Contains-later}
 use Rattle.or_actor.specs.declared.output.Output.{Output}
 use Rattle.or_actor.specs.declared.output.Output.TheVariants.{To}
 use Rattle.or_actor.specs.Steps.{TurnMade}
 use Rattle.kv_store.specs.Store.{StoreState}
+use Rattle.spark_node.specs.Spark.{SparkState}
 use Rattle.net_laboratory.specs.Scenario.{Laboratory}
 use Rattle.net_record.specs.declared.role.Role.{Role}
 use Rattle.net_record.specs.declared.role.Role.TheVariants.{Driver as DriverRole}
+use Rattle.net_record.specs.declared.kinds.AnyModule.TheVariants.{Spark}
+use Rattle.net_record.specs.declared.part.Part.TheVariants.{Module}
 use Rattle.net_record.specs.declared.phase.Phase.{Phase}
 use Rattle.net_record.specs.declared.actor.ActorState.{ActorState}
 use Rattle.net_record.specs.declared.wire.Wire.{Wire}
@@ -29,7 +33,7 @@ use Rattle.net_record.specs.Run.{begin}
 use Rattle.net_record.proofs.Delivered.{length-deliver}
 use Rattle.net_record.specs.Reached.{IsReached}
 use Rattle.net_record.specs.Reached.IsReached.{starts, turns, settles}
-use Rattle.net_agree.specs.Routed.{IsStoreAt, MayWaitFor, KnowsPeers, IsRouted, RunsAreRouted}
+use Rattle.net_agree.specs.Routed.{IsStoreAt, MayWaitFor, KnowsPeers, HearsPeers, IsRouted, RunsAreRouted}
 use Rattle.net_agree.proofs.RoutedLanes.{lane_is, port_is, IsDelivered, delivered_is}
 use Rattle.net_agree.proofs.RoutedSends.{quiet_may_wait, part_sends}
 use Rattle.net_agree.proofs.RoutedIssues.{quiet_item, IsQuietOutput, AreQuiet, ArePhasesQuiet, quiet_laboratory}
@@ -74,17 +78,28 @@ routed_of all w lanes as_many h waits = record {
   parts = λ number actor role there of. ((h.fit number actor role there of).is);
   items = waits;
   knows = λ number s at. (by_store number s at);
+  hears = λ number actor s there is. (by_spark number actor s there is);
 } where
+  role_of : (number : ℕ) (actor : ActorState) → slice_get w.actors number ≡ Some actor → slice_get all number ≡ Some (get_or all number DriverRole)
+  role_of number actor there =
+      let within : number < length all = omega (arith, slice_get_within w.actors number actor there, h.as_many) in
+      slice_get-get_or all number DriverRole within
+
   by_store : (number : ℕ) (s : StoreState) → IsStoreAt w number s → KnowsPeers all s
-  by_store number s at =
-      let within : number < length all = omega (arith, slice_get_within w.actors number at.actor at.there, h.as_many) in
-      (h.fit number at.actor (get_or all number DriverRole) at.there (slice_get-get_or all number DriverRole within)).knows s at.is
+  by_store number s at = (h.fit number at.actor (get_or all number DriverRole) at.there (role_of number at.actor at.there)).knows s at.is
+
+  by_spark : (number : ℕ) (actor : ActorState) (s : SparkState) → slice_get w.actors number ≡ Some actor → actor.part ≡ Module (Spark s) → HearsPeers all s
+  by_spark number actor s there is = (h.fit number actor (get_or all number DriverRole) there (role_of number actor there)).hears s is
 
 fit_in : (all : List Role) (w : WorldState) → IsRouted all w → AreFit all w.actors
 fit_in all w r = record {
   as_many = r.actors;
   fit = λ number actor role there of.
-      record { is = r.parts number actor role there of; knows = λ s is. r.knows number s (record { actor = actor; there = there; is = is }) };
+      record {
+        is = r.parts number actor role there of;
+        knows = λ s is. r.knows number s (record { actor = actor; there = there; is = is });
+        hears = λ s is. r.hears number actor s there is;
+      };
 }
 
 -- ---- a turn
@@ -121,10 +136,11 @@ front_may all w lane s others role (Some wire) r front there of =
     r.items lane wire role s there of (subst (λ items. Contains items s) (sym front) (Contains-first s others))
 
 actor_sends : (all : List Role) (w : WorldState) (reader : ℕ) (actor : ActorState) (m : TurnMade) → IsRouted all w → slice_get w.actors reader ≡ Some actor
-    → MaySend all reader (outputs_of actor m)
+    → ((role : Role) → slice_get all reader ≡ Some role → MayWaitFor all role m.taken.item) → MaySend all reader (outputs_of actor m)
 unfolding outputs_of
-actor_sends all w reader actor m r there from to number port item of joined named sent =
-    part_sends all actor.part from to number m.lane m.taken.item m.at port item (r.parts reader actor from there of) (contained all reader from of) joined named sent
+actor_sends all w reader actor m r there may from to number port item of joined named sent =
+    part_sends all actor.part from to number m.lane m.taken.item m.at port item (r.parts reader actor from there of) (contained all reader from of)
+    (λ s is. r.hears reader actor s there is) (may from of) joined named sent
 
 turn_of_routed : (all : List Role) (w : WorldState) (reader : ℕ) (others : List Stamped) (actor : ActorState) (m : TurnMade) → IsRouted all w
     → waiting w m.lane ≡ m.taken ∷ others → slice_get w.actors reader ≡ Some actor → ((role : Role) → slice_get all reader ≡ Some role → MayWaitFor all role m.taken.item)
@@ -138,7 +154,7 @@ turn_of_routed all w reader others actor m r front there may =
     (λ role of. turn_fit all actor.part role m.lane m.taken.item m.at ((fit_in all w r).fit reader actor role there of) (may role of)))
     (may_deliver all w.wires reader m.stamp lanes (outputs_of actor m) r.lanes
     (λ lane wire role s on of among. r.items lane wire role s on of (fewer_wait w.lanes m.lane m.taken others lane s front among))
-    (actor_sends all w reader actor m r there))
+    (actor_sends all w reader actor m r there may))
 
 turn_by_routed : (all : List Role) (w : WorldState) (lane at : ℕ) (items : List Stamped) (actor : Option ActorState) → IsRouted all w → waiting w lane ≡ items
     → slice_get w.actors (reader_of (slice_get w.wires lane)) ≡ actor → IsRouted all (turn_by w lane at (reader_of (slice_get w.wires lane)) items actor)
@@ -159,9 +175,9 @@ none_wait zero lane = refl
 none_wait (suc n) zero = refl
 none_wait (suc n) (suc lane) = none_wait n lane
 
-start_routed : (all : List Role) → IsRouted all (world_of all)
-start_routed all =
-    routed_of all (world_of all) refl (length-replicate (length (wires all)) []) (start_fit all)
+start_routed : (kind : Kind) (all : List Role) → IsRouted all (world_of kind all)
+start_routed kind all =
+    routed_of all (world_of kind all) refl (length-replicate (length (wires all)) []) (start_fit kind all)
     (λ lane wire role s there of among. absurd (nothing s (subst (λ items. Contains items s) (none_wait (length (wires all)) lane) among))) where
       nothing : (s : Stamped) → Contains [] s → ⊥
       nothing s among = omega (arith, among.1)
@@ -188,13 +204,13 @@ settle_routed all w moment asked r =
 
 -- ---- the law
 
--- what an induction over a run carries: the phases that are left bring no messages and no news of peers
+-- what an induction over a run carries: the phases that are left bring no messages and no news of neighbours and peers
 record StaysRouted (lab : Laboratory) (w : WorldState) (later : List Phase) : Type 0 where
   routed : IsRouted (roles lab) w
   quiet : ArePhasesQuiet later
 
 reached : (lab : Laboratory) {w : WorldState} {later : List Phase} → IsReached lab w later → StaysRouted lab w later
-reached lab starts = record { routed = begin_routed (roles lab) (start lab) (phases lab) (quiet_laboratory lab) (start_routed (roles lab)); quiet = quiet_laboratory lab }
+reached lab starts = record { routed = begin_routed (roles lab) (start lab) (phases lab) (quiet_laboratory lab) (start_routed lab.kind (roles lab)); quiet = quiet_laboratory lab }
 reached lab (turns w phase later t before legal) =
     let h = reached lab before in
     record { routed = turn_routed (roles lab) w t.lane t.at h.routed; quiet = h.quiet }

@@ -1,30 +1,32 @@
--- The driver issues neither messages nor news of peers.
+-- The driver issues neither messages nor news of neighbours and peers.
 use Rattle.std.proofs.Common.{ℕ, List, [], ◌∷◌, ◌++◌, map, Bool, true, false, cond, subst}
 use Rattle.std.specs.List.{AllByRecursion, flat_map, enumerate_from}
 use Rattle.or_base.specs.declared.item.Item.{Item}
-use Rattle.or_base.specs.declared.item.Item.TheVariants.{Net, PeerUp, Tick as TickItem, Up as UpItem}
+use Rattle.or_base.specs.declared.item.Item.TheVariants.{Net, NeighbourUp, PeerUp, Tick as TickItem, Up as UpItem, Restart as RestartItem}
 use Rattle.or_actor.specs.declared.output.Output.{Output}
 use Rattle.or_actor.specs.declared.output.Output.TheVariants.{To}
 use Rattle.kv_agree.proofs.Lists.{all_joined}
 use Rattle.net_laboratory.specs.declared.declared.LinkDecl.{LinkDecl}
 use Rattle.net_laboratory.specs.declared.command.Command.{Command}
-use Rattle.net_laboratory.specs.declared.command.Command.TheVariants.{Settle, Tick, Set, Own, Disown, Sync, Restart, Up, Down, Script, Get}
+use Rattle.net_laboratory.specs.declared.command.Command.TheVariants.{Settle, Tick, Restart, Aggregate, Ask}
 use Rattle.net_laboratory.specs.Scenario.{Laboratory}
 use Rattle.net_record.specs.declared.role.Role.{Role}
 use Rattle.net_record.specs.declared.phase.Phase.{Phase}
 use Rattle.net_record.specs.Roles.{roles, link_number}
-use Rattle.net_record.specs.Phases.{ups, takes_ticks, tick_for, issues_of, moment_after, phases_from, phases}
+use Rattle.net_record.specs.Phases.{ups, takes_ticks, tick_for, restarts_with, restart_for, issues_of, moment_after, phases_from, phases}
 use Rattle.net_agree.proofs.RoutedSends.{IsQuiet}
 
--- the item is neither a message nor news of a peer
+-- the item is neither a message nor news of a neighbour or a peer
 abbrev BringsNothing : Item → Type 0
 BringsNothing (Net link from msg) = ⊥
+BringsNothing (NeighbourUp link peer peer_if) = ⊥
 BringsNothing (PeerUp link peer) = ⊥
 BringsNothing _ = Unit {0}
 
 pub quiet_item : (item : Item) → BringsNothing item → IsQuiet item
 quiet_item item nothing = record {
   no_message = λ link from msg brings. subst BringsNothing brings nothing;
+  no_neighbour = λ link peer peer_if brings. subst BringsNothing brings nothing;
   no_news = λ link peer brings. subst BringsNothing brings nothing;
 }
 
@@ -38,29 +40,28 @@ quiet_ups : (all : List Role) (links : List (ℕ × LinkDecl)) → AreQuiet (map
 quiet_ups all [] = tt
 quiet_ups all (link ∷ links) = (tt, quiet_ups all links)
 
-quiet_if : (test : Bool) (number at : ℕ) → AreQuiet (cond test (To number (TickItem at) ∷ []) [])
-quiet_if true number at = (tt, tt)
-quiet_if false number at = tt
+quiet_if : (test : Bool) (x : Output) → IsQuietOutput x → AreQuiet (cond test (x ∷ []) [])
+quiet_if true x quiet = (quiet, tt)
+quiet_if false x quiet = tt
 
 quiet_ticks : (at : ℕ) (actors : List (ℕ × Role)) → AreQuiet (flat_map (tick_for at) actors)
 quiet_ticks at [] = tt
 quiet_ticks at (actor ∷ actors) =
-    all_joined IsQuietOutput (tick_for at actor) (flat_map (tick_for at) actors) (quiet_if (takes_ticks actor.1) actor.0 at) (quiet_ticks at actors)
+    all_joined IsQuietOutput (tick_for at actor) (flat_map (tick_for at) actors) (quiet_if (takes_ticks actor.1) (To actor.0 (TickItem at)) tt) (quiet_ticks at actors)
+
+quiet_restarts : (name : List ℕ) (actors : List (ℕ × Role)) → AreQuiet (flat_map (restart_for name) actors)
+quiet_restarts name [] = tt
+quiet_restarts name (actor ∷ actors) =
+    all_joined IsQuietOutput (restart_for name actor) (flat_map (restart_for name) actors) (quiet_if (restarts_with name actor.1) (To actor.0 RestartItem) tt) (quiet_restarts name actors)
 
 quiet_issues : (all : List Role) (command : Command) → AreQuiet (issues_of all command)
 unfolding issues_of
 quiet_issues all (Tick to) = quiet_ticks to (enumerate_from 0 all)
+quiet_issues all (Restart node) = quiet_restarts node (enumerate_from 0 all)
 quiet_issues all (Settle rounds show) = tt
-quiet_issues all (Set node pair) = (tt, tt)
-quiet_issues all (Sync node link) = (tt, tt)
-quiet_issues all (Restart node) = (tt, tt)
-quiet_issues all (Up link) = (tt, tt)
-quiet_issues all (Down link) = (tt, tt)
-quiet_issues all (Script link from acts) = (tt, tt)
-quiet_issues all (Get node key) = (tt, tt)
-quiet_issues all (Own node key value ttl) = (tt, tt)
-quiet_issues all (Disown node key) = (tt, tt)
-quiet_issues all _ = tt
+quiet_issues all (Aggregate node prefix least) = tt
+quiet_issues all (Ask node prefix) = tt
+quiet_issues all _ = (tt, tt)
 
 abbrev pub ArePhasesQuiet : List Phase → Type 0
 ArePhasesQuiet later = AllByRecursion (λ (phase : Phase). AreQuiet phase.issues) later

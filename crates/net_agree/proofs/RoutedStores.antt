@@ -10,7 +10,7 @@ use Rattle.or_base.specs.ByLink.{at_link, with_link, without_link}
 use Rattle.or_base.specs.Names.{is_among}
 use Rattle.or_base.specs.declared.entry.JournalEntry.{JournalEntry}
 use Rattle.or_base.specs.declared.item.Item.{Item}
-use Rattle.or_base.specs.declared.item.Item.TheVariants.{PeerUp, PeerDown, Net, Restart}
+use Rattle.or_base.specs.declared.item.Item.TheVariants.{NeighbourUp, PeerUp, PeerDown, Net, Restart}
 use Rattle.or_base.specs.declared.kind.Kind.{Kind}
 use Rattle.or_base.specs.declared.kind.Kind.TheVariants.{Stores, Full}
 use Rattle.or_base.specs.declared.message.Msg.{Msg}
@@ -202,9 +202,10 @@ turn_me s item = item_me s item
 
 -- ---- what it sends
 
--- the item is a message under this name over the link of the port, or brings neither a message nor news of a peer
+-- the item is a message under this name over the link of the port, or brings neither a message nor news of a neighbour or a peer
 abbrev pub IsOwnItem : ℕ → List ℕ → Item → Type 0
 IsOwnItem port me (Net link from msg) = (port ≡ first_link_port + link) × (from ≡ me)
+IsOwnItem port me (NeighbourUp link peer peer_if) = ⊥
 IsOwnItem port me (PeerUp link peer) = ⊥
 IsOwnItem port me _ = Unit {0}
 

@@ -6,7 +6,7 @@ use Rattle.std.proofs.lemmas.Bool.{cases_eq, cases_lt}
 use Rattle.std.proofs.lemmas.List.{set_past, get_or_past}
 use Rattle.or_base.specs.declared.item.Item.{Item}
 use Rattle.or_base.specs.declared.item.Stamped.{Stamped}
-use Rattle.or_base.specs.declared.kind.Kind.TheVariants.{Stores}
+use Rattle.or_base.specs.declared.kind.Kind.{Kind}
 use Rattle.or_actor.specs.declared.output.Output.{Output}
 use Rattle.or_actor.specs.declared.output.Output.TheVariants.{To}
 use Rattle.or_actor.specs.Steps.{TurnMade}
@@ -265,12 +265,13 @@ same_at zero (suc lane) items = refl
 same_at (suc count) zero items = refl
 same_at (suc count) (suc lane) items = same_at count lane items
 
-moment_if_new : (store : Option StoreState) → ((s : StoreState) → store ≡ Some s → (me : List ℕ) × (s ≡ new_store Stores me)) → option_map_or (λ (s : StoreState). s.moment) store 0 ≡ 0
-moment_if_new None new = refl
-moment_if_new (Some s) new = ap (λ (t : StoreState). t.moment) (new s refl).1
+moment_if_new : (kind : Kind) (store : Option StoreState) → ((s : StoreState) → store ≡ Some s → (me : List ℕ) × (s ≡ new_store kind me))
+    → option_map_or (λ (s : StoreState). s.moment) store 0 ≡ 0
+moment_if_new kind None new = refl
+moment_if_new kind (Some s) new = ap (λ (t : StoreState). t.moment) (new s refl).1
 
-moment_new : (all : List Role) (number : ℕ) → moment_at (map new_actor all) number ≡ 0
-moment_new all number = moment_if_new (store_at (map new_actor all) number) (starts_new all number)
+moment_new : (kind : Kind) (all : List Role) (number : ℕ) → moment_at (map (new_actor kind) all) number ≡ 0
+moment_new kind all number = moment_if_new kind (store_at (map (new_actor kind) all) number) (starts_new kind all number)
 
 pub timed_start : (lab : Laboratory) → KeepsTime (roles lab) 0 (start lab)
 timed_start lab =
@@ -279,7 +280,7 @@ timed_start lab =
       wires = refl;
       lanes = λ lane.
           let reader = reader_of (slice_get (wires all) lane) in
-          subst (IsTimely (moment_at (map new_actor all) reader) 0 (is_driven (slice_get (wires all) lane))) (sym (same_at (length (wires all)) lane []))
-          (record { between = omega (arith, moment_new all reader); none = λ e. tt });
-      stores = λ number. omega (arith, moment_new all number);
+          subst (IsTimely (moment_at (map (new_actor lab.kind) all) reader) 0 (is_driven (slice_get (wires all) lane))) (sym (same_at (length (wires all)) lane []))
+          (record { between = omega (arith, moment_new lab.kind all reader); none = λ e. tt });
+      stores = λ number. omega (arith, moment_new lab.kind all number);
     }

@@ -16,6 +16,9 @@ use Rattle.or_base.specs.Names.{is_among}
 use Rattle.or_actor.specs.declared.output.Output.{Output}
 use Rattle.or_actor.specs.declared.output.Output.TheVariants.{To}
 use Rattle.spark_node.specs.Spark.{spark_step}
+use Rattle.link_monitor.specs.LinkMonitor.{link_monitor_step}
+use Rattle.prefix_manager.specs.PrefixManager.{prefix_manager_step}
+use Rattle.decision_core.specs.Decision.{decision_step}
 use Rattle.kv_sync.specs.declared.session.Session.{Session}
 use Rattle.kv_sync.specs.declared.session.Stale.{Stale}
 use Rattle.kv_sync.specs.declared.session.SyncPhase.TheVariants.{Dumped, Pushed}
@@ -28,12 +31,13 @@ use Rattle.net_link.specs.declared.end.End.TheVariants.{A, B}
 use Rattle.net_link.specs.Link.{LinkState, direction_from, held_messages, forwards, message_to, up_told, down_told, up_to, down_to, carry_step, held_from, end_of, link_step}
 use Rattle.net_link.specs.End.{other_end}
 use Rattle.net_record.specs.declared.kinds.AnyModule.{AnyModule}
-use Rattle.net_record.specs.declared.kinds.AnyModule.TheVariants.{Spark, Store, Link}
+use Rattle.net_record.specs.declared.kinds.AnyModule.TheVariants.{Spark, LinkMonitor, PrefixManager, Store, Decision, Fib, Link}
 use Rattle.net_record.specs.declared.part.Part.{Part}
 use Rattle.net_record.specs.declared.part.Part.TheVariants.{Driver, Desk, Module}
 use Rattle.net_record.specs.Kinds.{module_step}
 use Rattle.net_record.specs.Actors.{part_step}
-use Rattle.net_agree.proofs.Sparks.{IsSparkItem, IsOfSpark, spark_sends}
+use Rattle.net_agree.proofs.Advertisers.{IsToldItem, IsTold, link_monitor_sends, prefix_manager_sends}
+use Rattle.net_agree.proofs.Sparks.{IsSparkItem, IsOfSpark, Anybody, spark_sends_own}
 use Rattle.net_agree.proofs.TimedTicks.{moment_past, tick_of, SendNoTicks, none_sent_then}
 
 -- ---- a store sends none
@@ -137,22 +141,34 @@ link_sends_none s (Tick at) =
 link_sends_none s (Net link from message) = none_where s.is_up _ _ (carry_sends_none s (end_of s from) message) tt
 link_sends_none s _ = tt
 
--- ---- a Spark sends none
+-- ---- the other modules send none
 
-no_tick : (port : ℕ) (item : Item) → IsSparkItem port item → tick_of item ≡ None
-no_tick port (Tick at) own = absurd own
-no_tick port _ own = refl
+no_tick_of_spark : (port : ℕ) (item : Item) → IsSparkItem Anybody port item → tick_of item ≡ None
+no_tick_of_spark port (Tick at) own = absurd own
+no_tick_of_spark port _ own = refl
 
-none_of_spark : (outputs : List Output) → AllByRecursion IsOfSpark outputs → SendNoTicks outputs
+none_of_spark : (outputs : List Output) → AllByRecursion (IsOfSpark Anybody) outputs → SendNoTicks outputs
 none_of_spark [] own = tt
-none_of_spark (To port item ∷ outputs) own = (no_tick port item own.0, none_of_spark outputs own.1)
+none_of_spark (To port item ∷ outputs) own = (no_tick_of_spark port item own.0, none_of_spark outputs own.1)
+
+no_tick_told : (item : Item) → IsToldItem Anybody item → tick_of item ≡ None
+no_tick_told (Tick at) told = absurd told
+no_tick_told _ told = refl
+
+none_told : (outputs : List Output) → AllByRecursion (IsTold Anybody) outputs → SendNoTicks outputs
+none_told [] told = tt
+none_told (To port item ∷ outputs) told = (no_tick_told item told.0, none_told outputs told.1)
 
 -- ---- an actor sends none
 
 module_sends_none : (m : AnyModule) (lane : ℕ) (item : Item) → SendNoTicks (module_step m lane item).1
-unfolding module_step
-module_sends_none (Spark s) lane item = none_of_spark (spark_step s item).1 (spark_sends s item)
+unfolding module_step decision_step
+module_sends_none (Spark s) lane item = none_of_spark (spark_step s item).1 (spark_sends_own s item)
+module_sends_none (LinkMonitor s) lane item = none_told (link_monitor_step s item).1 (link_monitor_sends Anybody s item (λ link peer peer_if brings. tt))
+module_sends_none (PrefixManager s) lane item = none_told (prefix_manager_step s item).1 (prefix_manager_sends Anybody s item)
 module_sends_none (Store s) lane item = store_sends_none s item
+module_sends_none (Decision s) lane item = tt
+module_sends_none (Fib s) lane item = tt
 module_sends_none (Link s) lane item = link_sends_none s item
 
 pub part_sends_none : (part : Part) (lane : ℕ) (item : Item) (at : ℕ) → SendNoTicks (part_step part lane item at).1

@@ -10,15 +10,15 @@ use Rattle.or_actor.specs.declared.output.Output.{Output}
 use Rattle.or_actor.specs.declared.output.Output.TheVariants.{To}
 use Rattle.net_laboratory.specs.declared.declared.LinkDecl.{LinkDecl}
 use Rattle.net_laboratory.specs.declared.command.Command.{Command}
-use Rattle.net_laboratory.specs.declared.command.Command.TheVariants.{Settle, Tick, Drain, LinkDrain, Metric, Advertise, Withdraw, Aggregate, Ask}
+use Rattle.net_laboratory.specs.declared.command.Command.TheVariants.{Settle, Tick, Restart, Aggregate, Ask}
 use Rattle.net_laboratory.specs.Scenario.{Laboratory}
 use Rattle.net_laboratory.specs.Amounts.{claims_of, after_tick, last_tick, is_later}
 use Rattle.net_laboratory.specs.Sound.{Declarations, admits_command, end_in_settle, declared_in, is_sound}
 use Rattle.net_record.specs.declared.role.Role.{Role}
 use Rattle.net_record.specs.declared.phase.Phase.{Phase}
 use Rattle.net_record.specs.Roles.{roles, link_number}
-use Rattle.net_record.specs.Phases.{ups, takes_ticks, tick_for, issues_of, moment_after, phases_from, phases}
-use Rattle.net_agree.proofs.TimedTicks.{AreSentBetween, SendNoTicks, sent_then, sent_none}
+use Rattle.net_record.specs.Phases.{ups, takes_ticks, tick_for, restarts_with, restart_for, issues_of, moment_after, phases_from, phases}
+use Rattle.net_agree.proofs.TimedTicks.{AreSentBetween, SendNoTicks, sent_then, sent_none, none_sent_then}
 
 -- the ticks of each phase are between the moment before it and its own
 abbrev pub Rise : ℕ → List Phase → Type 0
@@ -41,6 +41,15 @@ ticks_rise at number [] from h = h
 ticks_rise at number (role ∷ all) from h =
     tick_if (takes_ticks role) from at number (flat_map (tick_for at) (enumerate_from (number + 1) all)) h (ticks_rise at (number + 1) all)
 
+restarts_send_none : (name : List ℕ) (actors : List (ℕ × Role)) → SendNoTicks (flat_map (restart_for name) actors)
+restarts_send_none name [] = tt
+restarts_send_none name (actor ∷ actors) =
+    none_sent_then (restart_for name actor) (flat_map (restart_for name) actors) (restart_if (restarts_with name actor.1) actor.0) (restarts_send_none name actors)
+  where
+    restart_if : (test : Bool) (number : ℕ) → SendNoTicks (if test then To number item.Restart ∷ [] else [])
+    restart_if true number = (refl, tt)
+    restart_if false number = tt
+
 -- the command's tick, if it is one, isn't to an earlier moment
 abbrev IsTickFrom : ℕ → Command → Type 0
 IsTickFrom moment c = (to : ℕ) → (claims_of c).moment ≡ Some to → moment ≤ to
@@ -48,12 +57,8 @@ IsTickFrom moment c = (to : ℕ) → (claims_of c).moment ≡ Some to → moment
 issues_send_none : (all : List Role) (c : Command) → (claims_of c).moment ≡ None → SendNoTicks (issues_of all c)
 unfolding issues_of
 issues_send_none all (Tick to) e = absurd (cc e)
+issues_send_none all (Restart node) e = restarts_send_none node (enumerate_from 0 all)
 issues_send_none all (Settle rounds show) e = tt
-issues_send_none all (Drain node on) e = tt
-issues_send_none all (LinkDrain node link on) e = tt
-issues_send_none all (Metric node link metric) e = tt
-issues_send_none all (Advertise node entry) e = tt
-issues_send_none all (Withdraw node prefix) e = tt
 issues_send_none all (Aggregate node prefix least) e = tt
 issues_send_none all (Ask node prefix) e = tt
 issues_send_none all _ e = (refl, tt)

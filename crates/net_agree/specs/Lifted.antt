@@ -14,7 +14,7 @@ use Rattle.net_link.specs.Link.{LinkState}
 use Rattle.net_link.specs.Flow.{held_of}
 use Rattle.net_laboratory.specs.Scenario.{Laboratory}
 use Rattle.net_laboratory.specs.Sound.{is_sound}
-use Rattle.net_record.specs.declared.kinds.AnyModule.TheVariants.{Spark, Store, Link}
+use Rattle.net_record.specs.declared.kinds.AnyModule.TheVariants.{Spark, LinkMonitor, PrefixManager, Store, Decision, Fib, Link}
 use Rattle.net_record.specs.declared.part.Part.{Part}
 use Rattle.net_record.specs.declared.part.Part.TheVariants.{Driver, Desk, Module}
 use Rattle.net_record.specs.declared.phase.Phase.{Phase}
@@ -53,7 +53,11 @@ abbrev pub link_of : Part → Option LinkState
 link_of Driver = None
 link_of (Desk d) = None
 link_of (Module (Spark s)) = None
+link_of (Module (LinkMonitor s)) = None
+link_of (Module (PrefixManager s)) = None
 link_of (Module (Store s)) = None
+link_of (Module (Decision s)) = None
+link_of (Module (Fib s)) = None
 link_of (Module (Link s)) = Some s
 
 abbrev pub held_on : ℕ → List ℕ → LinkState → List Msg

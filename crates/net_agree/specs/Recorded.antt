@@ -1,7 +1,6 @@
 -- When the stores of a record agree at its settles.
 use Rattle.std.specs.Prelude.{◌≡◌, ℕ, List, [], ◌∷◌, ◌++◌, map, take, slice_index_or, IsTrue}
 use Rattle.std.specs.List.{enumerate_from}
-use Rattle.or_base.specs.declared.kind.Kind.TheVariants.{Stores}
 use Rattle.kv_agree.specs.Traced.{new_traced, traced_after}
 use Rattle.kv_agree.specs.Joined.{StoreSeen, QuietlyAgree, AgreeAfterOneRound}
 use Rattle.net_laboratory.specs.Scenario.{Laboratory}
@@ -24,7 +23,7 @@ store_recorded lab done before settle place =
       name = name;
       journal = take (slice_index_or settle.nodes place no_mark).entries (slice_index_or done.journals place []);
       makers =
-          (traced_after (new_traced Stores name) (items_taken (wires (roles lab)) (store_number (modules_of lab.kind) place) (take settle.turns done.turns))).makers;
+          (traced_after (new_traced lab.kind name) (items_taken (wires (roles lab)) (store_number (modules_of lab.kind) place) (take settle.turns done.turns))).makers;
       syncs = syncs_told place (before ++ settle ∷ []);
     }
 

@@ -1,11 +1,11 @@
 //! What holds of the stores of a run, under any legal schedule.
 //!
 //! A run comes to worlds (`specs/Reached.antt`), by the legal turns of its phases and by their settles. In each of them
-//! every item waits for an actor that may take it, and stores know who their peers are (`runs_are_routed`); ticks never
-//! go back (`runs_are_timed`); and numbers of sessions stay small (`runs_are_counted`). So every two stores that a link
-//! joins are paired, with all that is on its way between them (`runs_are_paired`, `specs/Lifted.antt`), and at each settle
-//! the stores of a joined part agree (`runs_agree`, `specs/Settled.antt`). The record of a run alone tells which these are
-//! (`records_agree`, `specs/Recorded.antt`).
+//! every item waits for an actor that may take it, and stores know and Sparks hear who their peers are
+//! (`runs_are_routed`); ticks never go back (`runs_are_timed`); and numbers of sessions stay small (`runs_are_counted`).
+//! So every two stores that a link joins are paired, with all that is on its way between them (`runs_are_paired`,
+//! `specs/Lifted.antt`), and at each settle the stores of a joined part agree (`runs_agree`, `specs/Settled.antt`). The
+//! record of a run alone tells which these are (`records_agree`, `specs/Recorded.antt`).
 //!
 //! The crate has laws only, and no code.
 #![tactic(auto)]
@@ -17,7 +17,8 @@ ghost use Rattle.net_agree.specs.Routed.{RunsAreRouted};
 ghost use Rattle.net_agree.specs.Settled.{RunsAgree};
 ghost use Rattle.net_agree.specs.Timed.{RunsAreTimed};
 
-/// In every run each item waits for an actor that may take it, and every store's peers are at the other ends of its links.
+/// In every run each item waits for an actor that may take it, and the peers that stores know and Sparks hear are at the
+/// other ends of their links.
 pub fn runs_are_routed()
     ensures { RunsAreRouted }
 {}

@@ -8,6 +8,7 @@ use Rattle.std.proofs.lemmas.List.{length_push}
 use Rattle.std.proofs.lemmas.List.Elements.{All-append, All-nil, All-cons}
 use Rattle.or_base.specs.declared.item.Item.{Item}
 use Rattle.or_base.specs.declared.item.Stamped.{Stamped}
+use Rattle.or_base.specs.declared.kind.Kind.{Kind}
 use Rattle.or_actor.specs.declared.output.Output.{Output}
 use Rattle.or_actor.specs.Steps.{TurnMade}
 use Rattle.net_laboratory.specs.Scenario.{Laboratory}
@@ -213,7 +214,7 @@ attend_turn lab marks asked w lane at within h =
 -- ---- the start and issues
 
 abbrev roles_after_driver : Laboratory → List Role
-roles_after_driver lab = flat_map (node_roles (modules_of lab.kind) lab.links) (enumerate_from 0 lab.nodes) ++ map link_role (enumerate_from 0 lab.links)
+roles_after_driver lab = flat_map (node_roles (modules_of lab.kind) lab.links lab.ttl) (enumerate_from 0 lab.nodes) ++ map link_role (enumerate_from 0 lab.links)
 
 pub attend_issue : (lab : Laboratory) (marks : List NodeMark) (w : WorldState) (issues : List Output) → Attends lab marks [] w → Attends lab marks (desks_asked issues) (issue w issues)
 unfolding issue
@@ -227,18 +228,18 @@ attend_issue lab marks w issues h = record {
       record { least = old.least; most = old.most; questions = old.questions; few = omega (arith, old.few, sent); last = old.last };
 }
 
-starts_new : (role : Role) (d : DeskState) → desk_of (new_part role) ≡ Some d → (d.seen ≡ 0) × (d.last ≡ 0) × (d.questions ≡ [])
-starts_new DriverRole d e = cc e
-starts_new (Node DeskRole node setup) d e =
+starts_new : (kind : Kind) (role : Role) (d : DeskState) → desk_of (new_part kind role) ≡ Some d → (d.seen ≡ 0) × (d.last ≡ 0) × (d.questions ≡ [])
+starts_new kind DriverRole d e = cc e
+starts_new kind (Node DeskRole node setup) d e =
     let same : new_desk node setup.store ≡ d = cc e in
     (ap (λ (f : DeskState). f.seen) (sym same), ap (λ (f : DeskState). f.last) (sym same), ap (λ (f : DeskState). f.questions) (sym same))
-starts_new (Node _ node setup) d e = cc e
-starts_new (LinkRole link a b) d e = cc e
+starts_new kind (Node _ node setup) d e = cc e
+starts_new kind (LinkRole link a b) d e = cc e
 
-all_new : (all : List Role) (number : ℕ) (d : DeskState) → desk_of (actor_at (map new_actor all) number).part ≡ Some d → (d.seen ≡ 0) × (d.last ≡ 0) × (d.questions ≡ [])
-all_new [] number d e = cc e
-all_new (role ∷ all) zero d e = starts_new role d e
-all_new (role ∷ all) (suc number) d e = all_new all number d e
+all_new : (kind : Kind) (all : List Role) (number : ℕ) (d : DeskState) → desk_of (actor_at (map (new_actor kind) all) number).part ≡ Some d → (d.seen ≡ 0) × (d.last ≡ 0) × (d.questions ≡ [])
+all_new kind [] number d e = cc e
+all_new kind (role ∷ all) zero d e = starts_new kind role d e
+all_new kind (role ∷ all) (suc number) d e = all_new kind all number d e
 
 pub none_open : (P : Question → Type 0) (qs : List Question) → length qs ≤ 0 → All P qs
 none_open P qs none k d within = absurd (omega (arith, none, within))
@@ -246,15 +247,15 @@ none_open P qs none k d within = absurd (omega (arith, none, within))
 pub attend_start : (lab : Laboratory) → Attends lab [] [] (start lab)
 attend_start lab = record {
   wired = refl;
-  stand = standings-new (roles lab);
+  stand = standings-new lab.kind (roles lab);
   desks = λ number d is.
-      let new = all_new (roles lab) number d is in
+      let new = all_new lab.kind (roles lab) number d is in
       let none = ap length new.2 in
       let ws = wires (roles lab) in
       record {
         least = omega arith;
         most = omega (arith, new.0);
-        questions = none_open (IsOpen 0 (entries_at (map new_actor (roles lab)) d.store)) d.questions (omega (arith, none));
+        questions = none_open (IsOpen 0 (entries_at (map (new_actor lab.kind) (roles lab)) d.store)) d.questions (omega (arith, none));
         few = omega (arith, none, questions_waiting-drained number (start lab).lanes ws (none_wait (length ws)));
         last = new.1 ∙ sym new.0;
       };

@@ -11,11 +11,12 @@ use Rattle.std.proofs.Math.ListN.{get_or-map}
 use Rattle.or_base.specs.declared.item.Stamped.{Stamped}
 use Rattle.or_actor.specs.declared.output.Output.{Output}
 use Rattle.or_actor.specs.declared.output.Output.TheVariants.{To}
-use Rattle.net_record.specs.declared.role.NodeModule.TheVariants.{Desk as DeskRole}
+use Rattle.net_record.specs.declared.role.NodeModule.{NodeModule}
+use Rattle.net_record.specs.declared.role.NodeModule.TheVariants.{Spark as SparkRole, Desk as DeskRole}
 use Rattle.net_record.specs.declared.role.Role.{Role}
 use Rattle.net_record.specs.declared.role.Role.TheVariants.{Driver as DriverRole, Node, Link as LinkRole}
 use Rattle.net_record.specs.declared.wire.Wire.{Wire}
-use Rattle.net_record.specs.Wires.{has_items_for, port_of, wire_between, wires_to, wires, is_port, lane_of}
+use Rattle.net_record.specs.Wires.{has_items_within, has_items_for, port_of, wire_between, wires_to, wires, is_port, lane_of}
 use Rattle.net_record.specs.Desk.{key_asked}
 use Rattle.net_record.specs.Answers.{asked_if, desks_asked}
 use Rattle.net_record.specs.World.{put, deliver, reader_of, is_empty}
@@ -86,11 +87,17 @@ not_true : (b : Bool) → b && false ≡ true → ⊥
 not_true true e = cc e
 not_true false e = cc e
 
+-- no module of a node has items for its desk
+none_for_desk : (m : NodeModule) → has_items_within m DeskRole ≡ false
+none_for_desk SparkRole = refl
+none_for_desk _ = refl
+
 -- whoever has items for a desk is the driver
 from_driver : (from to : Role) (desk : List ℕ × ℕ) → has_items_for from to ≡ true → (standing_at_start to).desk ≡ Some desk → (standing_at_start from).driver ≡ true
 from_driver DriverRole to desk h e = refl
 from_driver (Node m node setup) DriverRole desk h e = cc h
-from_driver (Node m node setup) (Node DeskRole name their_setup) desk h e = absurd (not_true (bytes_eq node name) h)
+from_driver (Node m node setup) (Node DeskRole name their_setup) desk h e =
+    absurd (not_true (bytes_eq node name) (ap (λ b. bytes_eq node name && b) (sym (none_for_desk m)) ∙ h))
 from_driver (Node m node setup) (Node _ name their_setup) desk h e = cc e
 from_driver (Node m node setup) (LinkRole link a b) desk h e = cc e
 from_driver (LinkRole link a b) DriverRole desk h e = cc h

@@ -6,6 +6,7 @@ use Rattle.std.proofs.lemmas.Bool.{cases_lt, cases_eq}
 use Rattle.std.proofs.lemmas.List.{set_past}
 use Rattle.or_base.specs.declared.item.Item.{Item}
 use Rattle.or_base.specs.declared.item.Stamped.{Stamped}
+use Rattle.or_base.specs.declared.kind.Kind.{Kind}
 use Rattle.or_actor.specs.declared.output.Output.{Output}
 use Rattle.or_actor.specs.Steps.{TurnMade}
 use Rattle.net_record.specs.declared.role.NodeModule.TheVariants.{Desk as DeskRole}
@@ -142,20 +143,20 @@ range_holds w lane h =
 
 -- ---- the start, issues and settles
 
-new_within : (actors : List ActorState) (role : Role) → FoundWithin actors (desk_of (new_part role))
-new_within actors DriverRole = tt
-new_within actors (Node DeskRole node setup) = omega arith
-new_within actors (Node _ node setup) = tt
-new_within actors (LinkRole link a b) = tt
+new_within : (actors : List ActorState) (kind : Kind) (role : Role) → FoundWithin actors (desk_of (new_part kind role))
+new_within actors kind DriverRole = tt
+new_within actors kind (Node DeskRole node setup) = omega arith
+new_within actors kind (Node _ node setup) = tt
+new_within actors kind (LinkRole link a b) = tt
 
-starts_within : (actors : List ActorState) (all : List Role) (number : ℕ) → FoundWithin actors (desk_of (actor_at (map new_actor all) number).part)
-starts_within actors [] zero = tt
-starts_within actors [] (suc number) = tt
-starts_within actors (role ∷ all) zero = new_within actors role
-starts_within actors (role ∷ all) (suc number) = starts_within actors all number
+starts_within : (actors : List ActorState) (kind : Kind) (all : List Role) (number : ℕ) → FoundWithin actors (desk_of (actor_at (map (new_actor kind) all) number).part)
+starts_within actors kind [] zero = tt
+starts_within actors kind [] (suc number) = tt
+starts_within actors kind (role ∷ all) zero = new_within actors kind role
+starts_within actors kind (role ∷ all) (suc number) = starts_within actors kind all number
 
-pub find_start : (all : List Role) → DesksFind (map new_actor all)
-find_start all = starts_within (map new_actor all) all
+pub find_start : (kind : Kind) (all : List Role) → DesksFind (map (new_actor kind) all)
+find_start kind all = starts_within (map (new_actor kind) all) kind all
 
 pub find_issue : (w : WorldState) (issues : List Output) → DesksFind w.actors → DesksFind (issue w issues).actors
 unfolding issue

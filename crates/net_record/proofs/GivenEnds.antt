@@ -43,7 +43,7 @@ given_turns all = record {
 pub given_are_done : GivenAreDone
 given_are_done lab turns settled =
     let at_start : HasGiven turns (begin (start lab) (phases lab)) (phases lab) turns = record {
-      wired = wired_begin (start lab) (phases lab) (wired_world_of (roles lab));
+      wired = wired_begin (start lab) (phases lab) (wired_world_of lab.kind (roles lab));
       is = ap (λ (done : Record). schedule_of done.turns ++ turns) (record_begun (start lab) (phases lab) []);
     } in
     let end = (keep_run_given (HasGiven turns) (given_turns turns) lab turns at_start).settled settled in

@@ -290,5 +290,5 @@ rounds_are_given lab settled =
     let w = begin (start lab) (phases lab) in
     let last = (round_robin lab).last.world in
     given_ends (settles_within w (phases lab)) (advance w (phases lab)) (schedule_of last.turns) last (settles_on w (phases lab))
-    (wired_advance w (phases lab) (wired_begin (start lab) (phases lab) (wired_world_of (roles lab))))
+    (wired_advance w (phases lab) (wired_begin (start lab) (phases lab) (wired_world_of lab.kind (roles lab))))
     (light_robin lab settled) (few_robin lab) (rounds_are_a_run lab settled)

@@ -20,7 +20,7 @@ use Rattle.net_record.specs.declared.role.NodeModule.{NodeModule}
 use Rattle.net_record.specs.declared.role.NodeModule.TheVariants.{Store as StoreRole, Desk as DeskRole}
 use Rattle.net_record.specs.declared.role.NodeSetup.{NodeSetup}
 use Rattle.net_record.specs.declared.role.Role.{Role}
-use Rattle.net_record.specs.declared.role.Role.TheVariants.{Driver as DriverRole, Node}
+use Rattle.net_record.specs.declared.role.Role.TheVariants.{Driver as DriverRole, Node, Link as LinkRole}
 use Rattle.net_record.specs.declared.actor.ActorState.{ActorState}
 use Rattle.net_record.specs.declared.record.NodeMark.{NodeMark}
 use Rattle.net_record.specs.Desk.{DeskState}
@@ -136,9 +136,9 @@ first_true : {A : Type 0} (test : A → Bool) (xs : List A) (n : ℕ) → how_ma
 first_true test [] n some = absurd (omega (arith, some))
 first_true test (x ∷ xs) n some = first_true_if (test x) (map test xs) (first_place test xs) n some (first_true test xs)
 
--- an actor as it starts
+-- an actor as it starts, in a laboratory of any kind
 abbrev pub standing_at_start : Role → Standing
-standing_at_start role = standing_of (new_part role)
+standing_at_start role = standing_of (new_part Stores role)
 
 abbrev pub standings_at_start : List Role → List Standing
 standings_at_start all = map standing_at_start all
@@ -158,50 +158,50 @@ node_stores (m ∷ modules) node setup =
     ∙ ap (λ bs. is_same_module StoreRole m ∷ bs) (node_stores modules node setup)
 
 -- what the modules of a node in this place are set up with
-abbrev pub setup_at : List NodeModule → List LinkDecl → ℕ → NodeDecl → NodeSetup
-setup_at modules links place node = record { store = store_number modules place; ends = ends_at links node.name }
+abbrev pub setup_at : List NodeModule → List LinkDecl → Option ℕ → ℕ → NodeDecl → NodeSetup
+setup_at modules links ttl place node = record { store = store_number modules place; ends = ends_at links node.name; ttl = ttl }
 
 -- the roles of nodes, the first of which has this place, and then these
-abbrev nodes_then : List NodeModule → List LinkDecl → ℕ → List NodeDecl → List Role → List Role
-nodes_then modules links place nodes others = flat_map (node_roles modules links) (enumerate_from place nodes) ++ others
+abbrev nodes_then : List NodeModule → List LinkDecl → Option ℕ → ℕ → List NodeDecl → List Role → List Role
+nodes_then modules links ttl place nodes others = flat_map (node_roles modules links ttl) (enumerate_from place nodes) ++ others
 
 standings-append : (first others : List Role) → standings_at_start (first ++ others) ≡ standings_at_start first ++ standings_at_start others
 standings-append first others = map-append standing_at_start first others
 
-standings-nodes : (modules : List NodeModule) (links : List LinkDecl) (place : ℕ) (node : NodeDecl) (nodes : List NodeDecl) (others : List Role)
-    → standings_at_start (nodes_then modules links place (node ∷ nodes) others)
-    ≡ standings_at_start (node_roles modules links (place, node)) ++ standings_at_start (nodes_then modules links (place + 1) nodes others)
-standings-nodes modules links place node nodes others =
-    ap standings_at_start (append_assoc (node_roles modules links (place, node)) (flat_map (node_roles modules links) (enumerate_from (place + 1) nodes)) others)
-    ∙ standings-append (node_roles modules links (place, node)) (nodes_then modules links (place + 1) nodes others)
+standings-nodes : (modules : List NodeModule) (links : List LinkDecl) (ttl : Option ℕ) (place : ℕ) (node : NodeDecl) (nodes : List NodeDecl) (others : List Role)
+    → standings_at_start (nodes_then modules links ttl place (node ∷ nodes) others)
+    ≡ standings_at_start (node_roles modules links ttl (place, node)) ++ standings_at_start (nodes_then modules links ttl (place + 1) nodes others)
+standings-nodes modules links ttl place node nodes others =
+    ap standings_at_start (append_assoc (node_roles modules links ttl (place, node)) (flat_map (node_roles modules links ttl) (enumerate_from (place + 1) nodes)) others)
+    ∙ standings-append (node_roles modules links ttl (place, node)) (nodes_then modules links ttl (place + 1) nodes others)
 
-stores-nodes : (modules : List NodeModule) (links : List LinkDecl) (place : ℕ) (node : NodeDecl) (nodes : List NodeDecl) (others : List Role)
-    → are_stores (standings_at_start (nodes_then modules links place (node ∷ nodes) others))
-    ≡ module_stores modules ++ are_stores (standings_at_start (nodes_then modules links (place + 1) nodes others))
-stores-nodes modules links place node nodes others =
-    let rest = standings_at_start (nodes_then modules links (place + 1) nodes others) in
-    ap are_stores (standings-nodes modules links place node nodes others)
-    ∙ map-append (λ (s : Standing). s.store) (standings_at_start (node_roles modules links (place, node))) rest
-    ∙ ap (λ bs. bs ++ are_stores rest) (node_stores modules node.name (setup_at modules links place node))
+stores-nodes : (modules : List NodeModule) (links : List LinkDecl) (ttl : Option ℕ) (place : ℕ) (node : NodeDecl) (nodes : List NodeDecl) (others : List Role)
+    → are_stores (standings_at_start (nodes_then modules links ttl place (node ∷ nodes) others))
+    ≡ module_stores modules ++ are_stores (standings_at_start (nodes_then modules links ttl (place + 1) nodes others))
+stores-nodes modules links ttl place node nodes others =
+    let rest = standings_at_start (nodes_then modules links ttl (place + 1) nodes others) in
+    ap are_stores (standings-nodes modules links ttl place node nodes others)
+    ∙ map-append (λ (s : Standing). s.store) (standings_at_start (node_roles modules links ttl (place, node))) rest
+    ∙ ap (λ bs. bs ++ are_stores rest) (node_stores modules node.name (setup_at modules links ttl place node))
 
 -- where the store of a node stands, among the nodes
-nodes_place : (modules : List NodeModule) (links : List LinkDecl) (first : ℕ) (nodes : List NodeDecl) (others : List Role) (place : ℕ) → how_many (module_stores modules) ≡ 1 → place < length nodes
-    → IsPlaceOf (are_stores (standings_at_start (nodes_then modules links first nodes others))) (place * length modules + first_place (is_same_module StoreRole) modules) place
-nodes_place modules links first [] others place one within = absurd (omega (arith, within))
-nodes_place modules links first (node ∷ nodes) others zero one within =
-    let rest = are_stores (standings_at_start (nodes_then modules links (first + 1) nodes others)) in
+nodes_place : (modules : List NodeModule) (links : List LinkDecl) (ttl : Option ℕ) (first : ℕ) (nodes : List NodeDecl) (others : List Role) (place : ℕ) → how_many (module_stores modules) ≡ 1 → place < length nodes
+    → IsPlaceOf (are_stores (standings_at_start (nodes_then modules links ttl first nodes others))) (place * length modules + first_place (is_same_module StoreRole) modules) place
+nodes_place modules links ttl first [] others place one within = absurd (omega (arith, within))
+nodes_place modules links ttl first (node ∷ nodes) others zero one within =
+    let rest = are_stores (standings_at_start (nodes_then modules links ttl (first + 1) nodes others)) in
     let store = first_place (is_same_module StoreRole) modules in
     let is = first_true (is_same_module StoreRole) modules 0 one in
     let number : store ≡ 0 * length modules + store = omega arith in
-    subst (λ bs. IsPlaceOf bs (0 * length modules + store) 0) (sym (stores-nodes modules links first node nodes others))
+    subst (λ bs. IsPlaceOf bs (0 * length modules + store) 0) (sym (stores-nodes modules links ttl first node nodes others))
     (subst (λ n. IsPlaceOf (module_stores modules ++ rest) n 0) number (place_within (module_stores modules) rest store 0 is.0 is.1))
-nodes_place modules links first (node ∷ nodes) others (suc place) one within =
-    let rest = are_stores (standings_at_start (nodes_then modules links (first + 1) nodes others)) in
+nodes_place modules links ttl first (node ∷ nodes) others (suc place) one within =
+    let rest = are_stores (standings_at_start (nodes_then modules links ttl (first + 1) nodes others)) in
     let store = first_place (is_same_module StoreRole) modules in
-    let is = nodes_place modules links (first + 1) nodes others place one (omega (arith, within)) in
+    let is = nodes_place modules links ttl (first + 1) nodes others place one (omega (arith, within)) in
     let number : length (module_stores modules) + (place * length modules + store) ≡ suc place * length modules + store =
     omega (arith, length-map modules (is_same_module StoreRole), suc-mul place (length modules)) in
-    subst (λ bs. IsPlaceOf bs (suc place * length modules + store) (suc place)) (sym (stores-nodes modules links first node nodes others))
+    subst (λ bs. IsPlaceOf bs (suc place * length modules + store) (suc place)) (sym (stores-nodes modules links ttl first node nodes others))
     (subst (λ n. IsPlaceOf (module_stores modules ++ rest) n (suc place)) number
     (place_behind (module_stores modules) rest (place * length modules + store) place one is))
 
@@ -214,10 +214,10 @@ lab_place : (lab : Laboratory) (place : ℕ) → place < length lab.nodes → Is
 lab_place lab place within =
     let modules = modules_of lab.kind in
     let others = map link_role (enumerate_from 0 lab.links) in
-    let bs = are_stores (standings_at_start (nodes_then modules lab.links 0 lab.nodes others)) in
+    let bs = are_stores (standings_at_start (nodes_then modules lab.links lab.ttl 0 lab.nodes others)) in
     let within_nodes = place * length modules + first_place (is_same_module StoreRole) modules in
     let number : suc within_nodes ≡ store_number modules place = omega arith in
-    subst (λ n. IsPlaceOf (false ∷ bs) n place) number (nodes_place modules lab.links 0 lab.nodes others place (one_store lab.kind) within)
+    subst (λ n. IsPlaceOf (false ∷ bs) n place) number (nodes_place modules lab.links lab.ttl 0 lab.nodes others place (one_store lab.kind) within)
 
 -- ---- the desks
 
@@ -262,20 +262,20 @@ names_next names first node nodes named i =
     let next : first + 1 + i ≡ first + suc i = omega arith in
     ap (slice_get names) next ∙ named (suc i)
 
-nodes_served : (names : List (List ℕ)) (all : List Standing) (modules : List NodeModule) (links : List LinkDecl) (first : ℕ) (nodes : List NodeDecl) (others : List Role)
+nodes_served : (names : List (List ℕ)) (all : List Standing) (modules : List NodeModule) (links : List LinkDecl) (ttl : Option ℕ) (first : ℕ) (nodes : List NodeDecl) (others : List Role)
     → ((place : ℕ) → place < length names → IsPlaceOf (are_stores all) (store_number modules place) place) → AreNamed names first nodes
-    → All (DeskIsServed names all) (standings_at_start others) → All (DeskIsServed names all) (standings_at_start (nodes_then modules links first nodes others))
-nodes_served names all modules links first [] others places named rest = rest
-nodes_served names all modules links first (node ∷ nodes) others places named rest =
+    → All (DeskIsServed names all) (standings_at_start others) → All (DeskIsServed names all) (standings_at_start (nodes_then modules links ttl first nodes others))
+nodes_served names all modules links ttl first [] others places named rest = rest
+nodes_served names all modules links ttl first (node ∷ nodes) others places named rest =
     let here : first ≡ first + 0 = omega arith in
     let name = ap (slice_get names) here ∙ named 0 in
     let place = places first (slice_get_within names first node.name name) in
     let number = store_number modules first in
     let served = store_served names all node.name number first place name in
-    subst (All (DeskIsServed names all)) (sym (standings-nodes modules links first node nodes others))
-    (All-append (DeskIsServed names all) (standings_at_start (node_roles modules links (first, node))) (standings_at_start (nodes_then modules links (first + 1) nodes others))
-    (node_served names all node.name (setup_at modules links first node) modules served)
-    (nodes_served names all modules links (first + 1) nodes others places (names_next names first node nodes named) rest))
+    subst (All (DeskIsServed names all)) (sym (standings-nodes modules links ttl first node nodes others))
+    (All-append (DeskIsServed names all) (standings_at_start (node_roles modules links ttl (first, node))) (standings_at_start (nodes_then modules links ttl (first + 1) nodes others))
+    (node_served names all node.name (setup_at modules links ttl first node) modules served)
+    (nodes_served names all modules links ttl (first + 1) nodes others places (names_next names first node nodes named) rest))
 
 all_served : (lab : Laboratory) → All (DeskIsServed (node_names lab) (standings_at_start (roles lab))) (standings_at_start (roles lab))
 all_served lab =
@@ -286,8 +286,8 @@ all_served lab =
     let as_many : length names ≡ length lab.nodes = length-map lab.nodes (λ (node : NodeDecl). node.name) in
     let places : (place : ℕ) → place < length names → IsPlaceOf (are_stores all) (store_number modules place) place =
     λ place within. lab_place lab place (omega (arith, within, as_many)) in
-    All-cons (DeskIsServed names all) (standing_at_start DriverRole) (standings_at_start (nodes_then modules lab.links 0 lab.nodes others)) (λ desk e. cc e)
-    (nodes_served names all modules lab.links 0 lab.nodes others places (λ i. ap (slice_get names) (zero-add i)) (links_served names all (enumerate_from 0 lab.links)))
+    All-cons (DeskIsServed names all) (standing_at_start DriverRole) (standings_at_start (nodes_then modules lab.links lab.ttl 0 lab.nodes others)) (λ desk e. cc e)
+    (nodes_served names all modules lab.links lab.ttl 0 lab.nodes others places (λ i. ap (slice_get names) (zero-add i)) (links_served names all (enumerate_from 0 lab.links)))
 
 -- each desk is served by the store in its node's place
 pub desk_served : (lab : Laboratory) (number : ℕ) (desk : List ℕ × ℕ) → (get_or (standings_at_start (roles lab)) number no_standing).desk ≡ Some desk
@@ -301,9 +301,16 @@ desk_served lab number desk e =
 
 -- ---- among actors that stand as they did at the start
 
-pub standings-new : (all : List Role) → standings (map new_actor all) ≡ standings_at_start all
-standings-new [] = refl
-standings-new (role ∷ all) = ap (λ ss. standing_at_start role ∷ ss) (standings-new all)
+standing-new : (kind : Kind) (role : Role) → standing_of (new_part kind role) ≡ standing_at_start role
+standing-new kind DriverRole = refl
+standing-new kind (Node StoreRole node setup) = refl
+standing-new kind (Node _ node setup) = refl
+standing-new kind (LinkRole link a b) = refl
+
+pub standings-new : (kind : Kind) (all : List Role) → standings (map (new_actor kind) all) ≡ standings_at_start all
+standings-new kind [] = refl
+standings-new kind (role ∷ all) =
+    ap (λ s. s ∷ standings (map (new_actor kind) all)) (standing-new kind role) ∙ ap (λ ss. standing_at_start role ∷ ss) (standings-new kind all)
 
 pub standing_here : (actors : List ActorState) (all : List Standing) (number : ℕ) → standings actors ≡ all → get_or all number no_standing ≡ standing_of (actor_at actors number).part
 standing_here actors all number stand =

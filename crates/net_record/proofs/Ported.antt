@@ -6,7 +6,7 @@ use Rattle.std.specs.List.{enumerate_from, position_from}
 use Rattle.net_record.specs.declared.wire.Wire.{Wire}
 use Rattle.net_record.specs.Wires.{is_port, lane_of}
 use Rattle.net_record.specs.declared.ports.Port.{Port}
-use Rattle.net_record.specs.Ports.{port_if, ports_among, lane_at_port, ArePortsOf}
+use Rattle.net_record.specs.Ports.{port_if, ports_among, lane_at_port, lane_with, ArePortsOf}
 
 -- ---- finding a lane
 
@@ -32,6 +32,20 @@ lane_found wires ports writer port own lane are is found =
 pub lane_missing : (wires : List Wire) (ports : List (List Port)) (writer port : ℕ) → ArePortsOf wires ports → length ports ≤ writer → None ≡ lane_of wires writer port
 lane_missing wires ports writer port are past =
     ap (λ os. lane_at_port os port) (sym (get_or_past ports writer [] past) ∙ are writer) ∙ lane_of_ports 0 wires writer port
+
+-- the lane of a port among one port more
+lane_after : (ports : List Port) (p : Port) (port : ℕ) → lane_at_port (ports ++ p ∷ []) port ≡ lane_with (lane_at_port ports port) p port
+lane_after [] p port = refl
+lane_after (q ∷ ports) p port = by_test (q.port == port) (lane_after ports p port) where
+  by_test : (here : Bool) → lane_at_port (ports ++ p ∷ []) port ≡ lane_with (lane_at_port ports port) p port
+      → cond here (Some q.lane) (lane_at_port (ports ++ p ∷ []) port) ≡ lane_with (cond here (Some q.lane) (lane_at_port ports port)) p port
+  by_test true later = refl
+  by_test false later = later
+
+pub lane_more : (ports after : List Port) (p : Port) (before lanes : ℕ → Option ℕ) → after ≡ ports ++ p ∷ [] → ((port : ℕ) → before port ≡ lane_at_port ports port)
+    → ((port : ℕ) → lanes port ≡ lane_with (before port) p port) → (port : ℕ) → lanes port ≡ lane_at_port after port
+lane_more ports after p before lanes is index added port =
+    added port ∙ ap (λ lane. lane_with lane p port) (index port) ∙ sym (lane_after ports p port) ∙ ap (λ ps. lane_at_port ps port) (sym is)
 
 -- ---- what a writer's ports are, one lane after another
 

@@ -1,6 +1,7 @@
 -- A run by rounds is a run under the schedule of its own turns.
 use Rattle.std.proofs.Common.{◌≡◌, ℕ, zero, suc, ◌+◌, List, [], ◌∷◌, ◌++◌, Bool, true, false, cond, ◌||◌, not, Some, None, Ok, length, map, refl, sym, ◌∙◌, ap, length-set}
 use Rattle.std.proofs.lemmas.List.{append-nil, length-map, length-replicate}
+use Rattle.or_base.specs.declared.kind.Kind.{Kind}
 use Rattle.or_actor.specs.declared.output.Output.{Output}
 use Rattle.net_laboratory.specs.declared.schedule.Turn.{Turn}
 use Rattle.net_record.specs.declared.role.Role.{Role}
@@ -23,10 +24,10 @@ use Rattle.net_record.proofs.Turns.{ends_as_many}
 use Rattle.net_record.proofs.Found.{find_start, find_issue, find_settle}
 use Rattle.net_record.proofs.RoundTurns.{IsReady, then_round, advance-waits, round_runs, round_schedules, ready_round}
 
-pub wired_world_of : (all : List Role) → IsWired (world_of all)
-wired_world_of all = record {
+pub wired_world_of : (kind : Kind) (all : List Role) → IsWired (world_of kind all)
+wired_world_of kind all = record {
   as_many = length-replicate (length (wires all)) [];
-  ends = ends_as_many (length all) (length (map new_actor all)) (wires all) (sym (length-map all new_actor)) (ends_of_wires all);
+  ends = ends_as_many (length all) (length (map (new_actor kind) all)) (wires all) (sym (length-map all (new_actor kind))) (ends_of_wires all);
 }
 
 pub wired_issue : (w : WorldState) (issues : List Output) → IsWired w → IsWired (issue w issues)
@@ -59,8 +60,8 @@ wired_settle moment asked w wired =
       ends = ends_as_many (length w.actors) (length (actors_after_settle clock (giving_of w.actors asked).actors)) w.wires (sym (length-settled clock asked w.actors)) wired.ends;
     }
 
-pub ready_world_of : (all : List Role) → IsReady (world_of all)
-ready_world_of all = record { wired = wired_world_of all; find = find_start all }
+pub ready_world_of : (kind : Kind) (all : List Role) → IsReady (world_of kind all)
+ready_world_of kind all = record { wired = wired_world_of kind all; find = find_start kind all }
 
 pub ready_issue : (w : WorldState) (issues : List Output) → IsReady w → IsReady (issue w issues)
 ready_issue w issues ready = record { wired = wired_issue w issues ready.wired; find = find_issue w issues ready.find }
@@ -211,5 +212,5 @@ pub rounds_are_a_run : RoundsAreARun
 unfolding round_robin run
 rounds_are_a_run lab settles =
     let m : Marked = record { world = start lab; marks = [] } in
-    ap (run_from (advance (begin (start lab) (phases lab)) (phases lab))) (schedules_phases (phases lab) 1 m (ready_world_of (roles lab)) settles)
-    ∙ runs_phases (phases lab) 1 m (ready_world_of (roles lab)) settles
+    ap (run_from (advance (begin (start lab) (phases lab)) (phases lab))) (schedules_phases (phases lab) 1 m (ready_world_of lab.kind (roles lab)) settles)
+    ∙ runs_phases (phases lab) 1 m (ready_world_of lab.kind (roles lab)) settles

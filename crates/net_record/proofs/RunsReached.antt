@@ -109,7 +109,7 @@ rounds_reach lab (phase ∷ later) number m ready reached =
 
 robin_recorded : (lab : Laboratory) → HasItsRecord (IsOnTheWay lab) (round_robin lab).last.world
 unfolding round_robin
-robin_recorded lab = rounds_reach lab (phases lab) 1 (record { world = start lab; marks = [] }) (ready_world_of (roles lab)) starts
+robin_recorded lab = rounds_reach lab (phases lab) 1 (record { world = start lab; marks = [] }) (ready_world_of lab.kind (roles lab)) starts
 
 pub rounds_are_reached : RoundsAreReached
 rounds_are_reached lab =

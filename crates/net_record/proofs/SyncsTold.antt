@@ -10,6 +10,7 @@ use Rattle.or_base.specs.declared.item.Item.{Item}
 use Rattle.or_base.specs.declared.kind.Kind.TheVariants.{Stores}
 use Rattle.or_base.specs.declared.item.Stamped.{Stamped}
 use Rattle.or_base.specs.declared.session.SyncDone.{SyncDone}
+use Rattle.or_base.specs.declared.kind.Kind.{Kind}
 use Rattle.or_actor.specs.declared.output.Output.{Output}
 use Rattle.or_actor.specs.Steps.{TurnMade, turn_done}
 use Rattle.kv_store.specs.Store.{StoreState, new_store, store_step}
@@ -113,21 +114,21 @@ told_turn w lane at h =
 
 -- ---- the start, issues and settles
 
-fresh : (me : List ℕ) → IsToldOf 0 [] (record { told = 0; store = new_store Stores me })
-fresh me = record { numbered = numbers_stay_apart.start Stores me; left = []; all = refl; count = refl }
+fresh : (kind : Kind) (me : List ℕ) → IsToldOf 0 [] (record { told = 0; store = new_store kind me })
+fresh kind me = record { numbered = numbers_stay_apart.start kind me; left = []; all = refl; count = refl }
 
-start_head : (role : Role) (rest : List Teller) → ((place : ℕ) → IsToldOf 0 [] (teller_in rest place))
-    → (place : ℕ) → IsToldOf 0 [] (teller_in (tellers_by 0 (store_of (new_part role)) ++ rest) place)
-start_head DriverRole rest later place = later place
-start_head (Node StoreRole node setup) rest later zero = fresh node
-start_head (Node StoreRole node setup) rest later (suc place) = later place
-start_head (Node _ node setup) rest later place = later place
-start_head (LinkRole link a b) rest later place = later place
+start_head : (kind : Kind) (role : Role) (rest : List Teller) → ((place : ℕ) → IsToldOf 0 [] (teller_in rest place))
+    → (place : ℕ) → IsToldOf 0 [] (teller_in (tellers_by 0 (store_of (new_part kind role)) ++ rest) place)
+start_head kind DriverRole rest later place = later place
+start_head kind (Node StoreRole node setup) rest later zero = fresh kind node
+start_head kind (Node StoreRole node setup) rest later (suc place) = later place
+start_head kind (Node _ node setup) rest later place = later place
+start_head kind (LinkRole link a b) rest later place = later place
 
-told_roles : (all : List Role) (place : ℕ) → IsToldOf 0 [] (teller_at (map new_actor all) place)
-told_roles [] zero = fresh []
-told_roles [] (suc place) = fresh []
-told_roles (role ∷ all) place = start_head role (tellers_of (map new_actor all)) (told_roles all) place
+told_roles : (kind : Kind) (all : List Role) (place : ℕ) → IsToldOf 0 [] (teller_at (map (new_actor kind) all) place)
+told_roles kind [] zero = fresh Stores []
+told_roles kind [] (suc place) = fresh Stores []
+told_roles kind (role ∷ all) place = start_head kind role (tellers_of (map (new_actor kind) all)) (told_roles kind all) place
 
 told_issue : (w : WorldState) (issues : List Output) → AreTold w → AreTold (issue w issues)
 unfolding issue
@@ -172,7 +173,7 @@ told_settle moment asked w h place =
 -- ---- a run
 
 pub told_start : (lab : Laboratory) → AreTold (start lab)
-told_start lab = told_roles (roles lab)
+told_start lab = told_roles lab.kind (roles lab)
 
 -- a front has numbers of its own, where the whole has
 front_apart : (front rest : List SyncDone) → AllPairs HaveOwnNumbers (front ++ rest) → AllPairs HaveOwnNumbers front

@@ -3,19 +3,23 @@ use Rattle.std.specs.Prelude.{ℕ, zero, suc, ◌-◌, List, [], ◌++◌, lengt
 use Rattle.std.specs.Option.{option_map_or}
 use Rattle.or_base.specs.declared.entry.JournalEntry.{JournalEntry}
 use Rattle.or_base.specs.declared.item.Item.{Item}
-use Rattle.or_base.specs.declared.kind.Kind.TheVariants.{Stores}
+use Rattle.or_base.specs.declared.kind.Kind.{Kind}
 use Rattle.or_base.specs.declared.item.Stamped.{Stamped}
 use Rattle.or_actor.specs.declared.output.Output.{Output}
 use Rattle.or_actor.specs.Steps.{TurnMade, turn_made, finds_nothing}
 use Rattle.kv_store.specs.Store.{StoreState, new_store}
 use Rattle.net_link.specs.Link.{new_link}
 use Rattle.spark_node.specs.Spark.{new_spark}
+use Rattle.link_monitor.specs.LinkMonitor.{new_link_monitor}
+use Rattle.prefix_manager.specs.PrefixManager.{new_prefix_manager}
+use Rattle.decision_core.specs.Decision.{new_decision}
+use Rattle.fib_core.specs.Fib.{new_fib}
 use Rattle.net_record.specs.declared.role.NodeModule.{NodeModule}
-use Rattle.net_record.specs.declared.role.NodeModule.TheVariants.{Spark as SparkRole, Store as StoreRole, Desk as DeskRole}
+use Rattle.net_record.specs.declared.role.NodeModule.TheVariants.{Spark as SparkRole, LinkMonitor as LinkMonitorRole, PrefixManager as PrefixManagerRole, Store as StoreRole, Decision as DecisionRole, Fib as FibRole, Desk as DeskRole}
 use Rattle.net_record.specs.declared.role.NodeSetup.{NodeSetup}
 use Rattle.net_record.specs.declared.role.Role.{Role}
 use Rattle.net_record.specs.declared.role.Role.TheVariants.{Driver as DriverRole, Node, Link as LinkRole}
-use Rattle.net_record.specs.declared.kinds.AnyModule.TheVariants.{Spark, Store, Link}
+use Rattle.net_record.specs.declared.kinds.AnyModule.TheVariants.{Spark, LinkMonitor, PrefixManager, Store, Decision, Fib, Link}
 use Rattle.net_record.specs.declared.part.Part.{Part}
 use Rattle.net_record.specs.declared.part.Part.TheVariants.{Driver, Desk, Module}
 use Rattle.net_record.specs.declared.actor.ActorState.{ActorState}
@@ -25,20 +29,24 @@ use Rattle.net_record.specs.Desk.{DeskState, new_desk, key_asked, desk_after, de
 
 -- ---- what an actor is
 
--- A module of the node with this name, as it starts. A full laboratory isn't run yet, so that every store and link is of kind stores.
-abbrev pub node_part : NodeModule → List ℕ → NodeSetup → Part
-node_part SparkRole node setup = Module (Spark (new_spark node setup.ends))
-node_part StoreRole node setup = Module (Store (new_store Stores node))
-node_part DeskRole node setup = Desk (new_desk node setup.store)
+-- a module of the node with this name, as it starts in a laboratory of this kind
+abbrev pub node_part : Kind → NodeModule → List ℕ → NodeSetup → Part
+node_part kind SparkRole node setup = Module (Spark (new_spark node setup.ends))
+node_part kind LinkMonitorRole node setup = Module (LinkMonitor (new_link_monitor node setup.ends setup.ttl))
+node_part kind PrefixManagerRole node setup = Module (PrefixManager (new_prefix_manager node setup.ttl))
+node_part kind StoreRole node setup = Module (Store (new_store kind node))
+node_part kind DecisionRole node setup = Module (Decision (new_decision node))
+node_part kind FibRole node setup = Module (Fib (new_fib node))
+node_part kind DeskRole node setup = Desk (new_desk node setup.store)
 
 -- what an actor is as it starts
-abbrev pub new_part : Role → Part
-new_part DriverRole = Driver
-new_part (Node module_ node setup) = node_part module_ node setup
-new_part (LinkRole link a b) = Module (Link (new_link Stores link a b))
+abbrev pub new_part : Kind → Role → Part
+new_part kind DriverRole = Driver
+new_part kind (Node module_ node setup) = node_part kind module_ node setup
+new_part kind (LinkRole link a b) = Module (Link (new_link kind link a b))
 
-abbrev pub new_actor : Role → ActorState
-new_actor role = record { part = new_part role; clock = 0; told = 0; made = [] }
+abbrev pub new_actor : Kind → Role → ActorState
+new_actor kind role = record { part = new_part kind role; clock = 0; told = 0; made = [] }
 
 -- an actor that does nothing, which stands for one that isn't there
 abbrev pub no_actor : ActorState

@@ -7,13 +7,21 @@ use Rattle.or_actor.specs.Steps.{finds_nothing}
 use Rattle.kv_store.specs.Store.{StoreState, store_step}
 use Rattle.net_link.specs.Link.{link_step}
 use Rattle.spark_node.specs.Spark.{spark_step}
+use Rattle.link_monitor.specs.LinkMonitor.{link_monitor_step}
+use Rattle.prefix_manager.specs.PrefixManager.{prefix_manager_step}
+use Rattle.decision_core.specs.Decision.{decision_step}
+use Rattle.fib_core.specs.Fib.{fib_step}
 use Rattle.net_record.specs.declared.kinds.AnyModule.{AnyModule}
-use Rattle.net_record.specs.declared.kinds.AnyModule.TheVariants.{Spark, Store, Link}
+use Rattle.net_record.specs.declared.kinds.AnyModule.TheVariants.{Spark, LinkMonitor, PrefixManager, Store, Decision, Fib, Link}
 
 -- One turn of a module: its state after it, and what it sends. No module of any kind finds a length; desks do, and stand beside
 -- the modules.
 unfoldable pub module_step : AnyModule → ℕ → Item → AnyModule × List Output
 module_step (Spark s) lane item = let after = spark_step s item in (Spark after.0, after.1)
+module_step (LinkMonitor s) lane item = let after = link_monitor_step s item in (LinkMonitor after.0, after.1)
+module_step (PrefixManager s) lane item = let after = prefix_manager_step s item in (PrefixManager after.0, after.1)
+module_step (Decision s) lane item = let after = decision_step s item in (Decision after.0, after.1)
+module_step (Fib s) lane item = let after = fib_step s item in (Fib after.0, after.1)
 module_step (Store s) lane item = let after = store_step s item in (Store after.0, after.1)
 module_step (Link s) lane item = let after = link_step s item in (Link after.0, after.1)
 

@@ -1,6 +1,7 @@
 -- What the driver sends: one row a command, and the phases of a scenario.
-use Rattle.std.specs.Prelude.{ℕ, List, [], ◌∷◌, ◌++◌, map, unwrap_or, Bool, true, false, if◌then◌else◌}
+use Rattle.std.specs.Prelude.{ℕ, List, [], ◌∷◌, ◌++◌, map, unwrap_or, Bool, true, false, ◌&&◌, if◌then◌else◌}
 use Rattle.std.specs.List.{flat_map, enumerate_from}
+use Rattle.std.specs.Str.{bytes_eq}
 use Rattle.or_base.specs.declared.item.Item.{Item}
 use Rattle.or_base.specs.declared.item.Item.TheVariants as item
 use Rattle.or_actor.specs.declared.output.Output.{Output}
@@ -11,7 +12,7 @@ use Rattle.net_laboratory.specs.declared.command.Command.TheVariants.{Settle, Ti
 use Rattle.net_laboratory.specs.Scenario.{Laboratory}
 use Rattle.net_laboratory.specs.Amounts.{claims_of}
 use Rattle.net_record.specs.declared.role.NodeModule.{NodeModule}
-use Rattle.net_record.specs.declared.role.NodeModule.TheVariants.{Spark, Store, Desk}
+use Rattle.net_record.specs.declared.role.NodeModule.TheVariants.{Spark, LinkMonitor, PrefixManager, Store, Decision, Fib, Desk}
 use Rattle.net_record.specs.declared.role.Role.{Role}
 use Rattle.net_record.specs.declared.role.Role.TheVariants.{Driver, Node, Link}
 use Rattle.net_record.specs.declared.phase.Phase.{Phase}
@@ -24,7 +25,11 @@ ups all links = map (λ link. To (link_number all link.0) item.Up) (enumerate_fr
 -- the modules of a node that take ticks
 abbrev pub module_takes_ticks : NodeModule → Bool
 module_takes_ticks Spark = true
+module_takes_ticks LinkMonitor = false
+module_takes_ticks PrefixManager = false
 module_takes_ticks Store = true
+module_takes_ticks Decision = false
+module_takes_ticks Fib = true
 module_takes_ticks Desk = false
 
 abbrev pub takes_ticks : Role → Bool
@@ -40,6 +45,30 @@ tick_for at actor = if takes_ticks actor.1 then To actor.0 (item.Tick at) ∷ []
 abbrev pub ticks : List Role → ℕ → List Output
 ticks all at = flat_map (tick_for at) (enumerate_from 0 all)
 
+-- the modules of a node that restart with it
+abbrev pub module_restarts : NodeModule → Bool
+module_restarts Spark = true
+module_restarts LinkMonitor = false
+module_restarts PrefixManager = false
+module_restarts Store = true
+module_restarts Decision = false
+module_restarts Fib = false
+module_restarts Desk = false
+
+-- the actor is a module of the node with this name, and restarts with it
+abbrev pub restarts_with : List ℕ → Role → Bool
+restarts_with name Driver = false
+restarts_with name (Node m node setup) = module_restarts m && bytes_eq node name
+restarts_with name (Link link a b) = false
+
+-- a Restart for an actor, which is given with its number, if it restarts with the node
+abbrev pub restart_for : List ℕ → ℕ × Role → List Output
+restart_for name actor = if restarts_with name actor.1 then To actor.0 item.Restart ∷ [] else []
+
+-- a Restart for each module of the node that restarts with it
+abbrev pub restarts : List Role → List ℕ → List Output
+restarts all name = flat_map (restart_for name) (enumerate_from 0 all)
+
 -- an item for a module of the node with this name, and one for a link
 abbrev pub to_module : List Role → NodeModule → List ℕ → Item → List Output
 to_module all m node item = To (module_number all m node) item ∷ []
@@ -53,18 +82,18 @@ issues_of all (Settle rounds show) = []
 issues_of all (Tick to) = ticks all to
 issues_of all (Set node pair) = to_module all Store node (item.Set pair)
 issues_of all (Sync node link) = to_module all Store node (item.Sync link)
-issues_of all (Restart node) = to_module all Store node item.Restart
+issues_of all (Restart node) = restarts all node
 issues_of all (Up link) = to_link all link item.Up
 issues_of all (Down link) = to_link all link item.Down
 issues_of all (Script link from acts) = to_link all link (item.Script from acts)
 issues_of all (Get node key) = to_module all Desk node (item.Get key)
 issues_of all (Own node key value ttl) = to_module all Store node (item.Persist key value ttl)
 issues_of all (Disown node key) = to_module all Store node (item.Unset key)
-issues_of all (Drain node on) = []
-issues_of all (LinkDrain node link on) = []
-issues_of all (Metric node link metric) = []
-issues_of all (Advertise node entry) = []
-issues_of all (Withdraw node prefix) = []
+issues_of all (Drain node on) = to_module all LinkMonitor node (item.Drain on)
+issues_of all (LinkDrain node link on) = to_module all LinkMonitor node (item.LinkDrain link on)
+issues_of all (Metric node link metric) = to_module all LinkMonitor node (item.Metric link metric)
+issues_of all (Advertise node entry) = to_module all PrefixManager node (item.Advertise entry)
+issues_of all (Withdraw node prefix) = to_module all PrefixManager node (item.Withdraw prefix)
 issues_of all (Aggregate node prefix least) = []
 issues_of all (Ask node prefix) = []
 

@@ -20,6 +20,11 @@ abbrev pub lane_at_port : List Port → ℕ → Option ℕ
 lane_at_port [] port = None
 lane_at_port (p ∷ ports) port = if p.port == port then Some p.lane else lane_at_port ports port
 
+-- the same with one port more, where the others have this lane or none
+abbrev pub lane_with : Option ℕ → Port → ℕ → Option ℕ
+lane_with (Some lane) p port = Some lane
+lane_with None p port = if p.port == port then Some p.lane else None
+
 -- the ports of each writer, by its number
 abbrev pub ArePortsOf : List Wire → List (List Port) → Type 0
 ArePortsOf wires ports = (writer : ℕ) → slice_index_or ports writer [] ≡ ports_of wires writer

@@ -1,5 +1,5 @@
 -- Which actors a laboratory has: the driver, then the modules of each node, then the links.
-use Rattle.std.specs.Prelude.{ℕ, ◌+◌, ◌*◌, List, [], ◌∷◌, ◌++◌, length, map, Bool, false, ◌&&◌, ◌==◌, if◌then◌else◌}
+use Rattle.std.specs.Prelude.{ℕ, ◌+◌, ◌*◌, List, [], ◌∷◌, ◌++◌, length, map, Option, Bool, false, ◌&&◌, ◌==◌, if◌then◌else◌}
 use Rattle.std.specs.Str.{bytes_eq}
 use Rattle.std.specs.List.{flat_map, enumerate_from, position_or_len}
 use Rattle.or_base.specs.declared.kind.Kind.{Kind}
@@ -10,20 +10,24 @@ use Rattle.net_laboratory.specs.Limits.{most_nodes, most_links}
 use Rattle.net_laboratory.specs.Scenario.{Laboratory}
 use Rattle.or_actor.specs.declared.link_end.LinkEnd.{LinkEnd}
 use Rattle.net_record.specs.declared.role.NodeModule.{NodeModule}
-use Rattle.net_record.specs.declared.role.NodeModule.TheVariants.{Spark, Store, Desk}
+use Rattle.net_record.specs.declared.role.NodeModule.TheVariants.{Spark, LinkMonitor, PrefixManager, Store, Decision, Fib, Desk}
 use Rattle.net_record.specs.declared.role.Role.{Role}
 use Rattle.net_record.specs.declared.role.Role.TheVariants.{Driver, Node, Link}
 
--- the modules of a node of each kind, in the order of their numbers; a full node isn't run yet, and has those of stores
+-- the modules of a node of each kind, in the order of their numbers
 abbrev pub modules_of : Kind → List NodeModule
 modules_of Stores = Store ∷ Desk ∷ []
-modules_of Full = Store ∷ Desk ∷ []
+modules_of Full = Spark ∷ LinkMonitor ∷ PrefixManager ∷ Store ∷ Decision ∷ Fib ∷ Desk ∷ []
 
 -- each kind of module has a number of its own
 abbrev pub kind_number : NodeModule → ℕ
 kind_number Spark = 0
-kind_number Store = 1
-kind_number Desk = 2
+kind_number LinkMonitor = 1
+kind_number PrefixManager = 2
+kind_number Store = 3
+kind_number Decision = 4
+kind_number Fib = 5
+kind_number Desk = 6
 
 abbrev pub is_same_module : NodeModule → NodeModule → Bool
 is_same_module m other = kind_number m == kind_number other
@@ -47,10 +51,10 @@ end_at name link =
 abbrev pub ends_at : List LinkDecl → List ℕ → List LinkEnd
 ends_at links name = flat_map (end_at name) (enumerate_from 0 links)
 
--- the modules of a node, which is given with its place among the nodes
-abbrev pub node_roles : List NodeModule → List LinkDecl → ℕ × NodeDecl → List Role
-node_roles modules links node =
-    map (λ m. Node m node.1.name (record { store = store_number modules node.0; ends = ends_at links node.1.name })) modules
+-- the modules of a node, which is given with its place among the nodes; its records have this lifetime
+abbrev pub node_roles : List NodeModule → List LinkDecl → Option ℕ → ℕ × NodeDecl → List Role
+node_roles modules links ttl node =
+    map (λ m. Node m node.1.name (record { store = store_number modules node.0; ends = ends_at links node.1.name; ttl = ttl })) modules
 
 -- a link, which is given with its number
 abbrev pub link_role : ℕ × LinkDecl → Role
@@ -58,7 +62,7 @@ link_role link = Link link.0 link.1.a link.1.b
 
 -- what the actors of a laboratory are, in the order of their numbers
 abbrev pub roles : Laboratory → List Role
-roles lab = Driver ∷ (flat_map (node_roles (modules_of lab.kind) lab.links) (enumerate_from 0 lab.nodes) ++ map link_role (enumerate_from 0 lab.links))
+roles lab = Driver ∷ (flat_map (node_roles (modules_of lab.kind) lab.links lab.ttl) (enumerate_from 0 lab.nodes) ++ map link_role (enumerate_from 0 lab.links))
 
 -- a node has at most so many modules
 abbrev pub most_modules : ℕ

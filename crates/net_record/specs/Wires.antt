@@ -2,9 +2,9 @@
 use Rattle.std.specs.Prelude.{ℕ, ◌+◌, List, [], ◌∷◌, Bool, true, false, ◌&&◌, ◌||◌, ◌==◌, Option, if◌then◌else◌}
 use Rattle.std.specs.Str.{bytes_eq}
 use Rattle.std.specs.List.{flat_map, enumerate_from, position_from}
-use Rattle.or_actor.specs.Ports.{spark_port, store_port, desk_port, first_link_port, end_b_ports}
+use Rattle.or_actor.specs.Ports.{spark_port, link_monitor_port, prefix_manager_port, store_port, decision_port, fib_port, desk_port, first_link_port, end_b_ports}
 use Rattle.net_record.specs.declared.role.NodeModule.{NodeModule}
-use Rattle.net_record.specs.declared.role.NodeModule.TheVariants.{Spark, Store, Desk}
+use Rattle.net_record.specs.declared.role.NodeModule.TheVariants.{Spark, LinkMonitor, PrefixManager, Store, Decision, Fib, Desk}
 use Rattle.net_record.specs.declared.role.Role.{Role}
 use Rattle.net_record.specs.declared.role.Role.TheVariants.{Driver, Node, Link}
 use Rattle.net_record.specs.declared.wire.Wire.{Wire}
@@ -14,23 +14,41 @@ use Rattle.net_record.specs.declared.wire.Wire.{Wire}
 -- the driver has items for the module
 abbrev pub is_driven : NodeModule → Bool
 is_driven Spark = true
+is_driven LinkMonitor = true
+is_driven PrefixManager = true
 is_driven Store = true
+is_driven Decision = false
+is_driven Fib = true
 is_driven Desk = true
 
 -- messages go to and from the links of the module's node
 abbrev pub meets_links : NodeModule → Bool
 meets_links Spark = true
+meets_links LinkMonitor = false
+meets_links PrefixManager = false
 meets_links Store = true
+meets_links Decision = false
+meets_links Fib = false
 meets_links Desk = false
 
 -- the port by which the other modules of its node name it, and the links that have that node as their end a
 abbrev pub port_of_module : NodeModule → ℕ
 port_of_module Spark = spark_port
+port_of_module LinkMonitor = link_monitor_port
+port_of_module PrefixManager = prefix_manager_port
 port_of_module Store = store_port
+port_of_module Decision = decision_port
+port_of_module Fib = fib_port
 port_of_module Desk = desk_port
 
 -- within a node, the first module has items for the second: the pairs that do, and no other
 abbrev pub has_items_within : NodeModule → NodeModule → Bool
+has_items_within Spark LinkMonitor = true
+has_items_within LinkMonitor Store = true
+has_items_within PrefixManager Store = true
+has_items_within Store Decision = true
+has_items_within Decision PrefixManager = true
+has_items_within Decision Fib = true
 has_items_within _ _ = false
 
 -- ---- who has items for whom

@@ -3,6 +3,7 @@ use Rattle.std.specs.Prelude.{ℕ, ◌+◌, max, List, [], ◌∷◌, ◌++◌, 
 use Rattle.std.specs.List.{list_all, flat_map}
 use Rattle.std.specs.Option.{option_map_or}
 use Rattle.or_base.specs.declared.item.Stamped.{Stamped}
+use Rattle.or_base.specs.declared.kind.Kind.{Kind}
 use Rattle.or_base.specs.TurnDone.{TurnDone}
 use Rattle.or_actor.specs.declared.output.Output.{Output}
 use Rattle.or_actor.specs.declared.output.Output.TheVariants.{To}
@@ -29,14 +30,14 @@ pub record WorldState : Type 0 where
   pub turns : List TurnDone
   pub settles : List SettleDone
 
--- the world of these actors before anything is done
-abbrev pub world_of : List Role → WorldState
-world_of all =
-    record { wires = wires all; lanes = replicate (length (wires all)) []; actors = map new_actor all; turns = []; settles = [] }
+-- the world of these actors, in a laboratory of this kind, before anything is done
+abbrev pub world_of : Kind → List Role → WorldState
+world_of kind all =
+    record { wires = wires all; lanes = replicate (length (wires all)) []; actors = map (new_actor kind) all; turns = []; settles = [] }
 
 -- the world of a laboratory before anything is done
 abbrev pub start : Laboratory → WorldState
-start lab = world_of (roles lab)
+start lab = world_of lab.kind (roles lab)
 
 -- ---- lanes
 

@@ -4,7 +4,7 @@ use crate::part::Part;
 use crate::role::Role;
 use crate::stamps::Stamps;
 use or_actor::Outbox;
-use or_base::{NoMemory, Stamped};
+use or_base::{Kind, NoMemory, Stamped};
 use std::alloc::Global;
 
 /// An actor: what it is; its clock, which is the stamp of its last turn or what the last settle made of it; of how many
@@ -23,13 +23,13 @@ impl ActorState {
     ghost use Rattle.net_record.specs.Actors.{new_actor, actor_after, outputs_of, actor_after_settle, actor_without_question};
     ghost use Rattle.net_record.specs.Small.{HasSmallNumber};
 
-    /// An actor as it starts.
-    pub fn new(alloc: Global, role: &Role) -> Result<ActorState, NoMemory>
+    /// An actor as it starts, in a laboratory of this kind.
+    pub fn new(alloc: Global, kind: Kind, role: &Role) -> Result<ActorState, NoMemory>
         requires { HasSmallNumber role.now }
-        ensures { IfOk result (λ actor. actor ≡ new_actor role.now) }
+        ensures { IfOk result (λ actor. actor ≡ new_actor kind role.now) }
     {
         Ok(ActorState {
-            part: Part::new(alloc, role)?,
+            part: Part::new(alloc, kind, role)?,
             clock: 0,
             told: 0,
             made: Stamps::new(alloc),

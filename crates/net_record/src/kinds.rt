@@ -3,10 +3,14 @@
 ghost use Rattle.std.specs.Prelude.{◌≡◌, option_map};
 ghost use Rattle.net_record.specs.Kinds.{store_in};
 
+use decision_core::DecisionModule;
+use fib_core::FibModule;
 use kv_store::KvModule;
+use link_monitor::LinkMonitorModule;
 use net_link::LinkModule;
 use or_actor::{Module, Outbox};
 use or_base::{Item, JournalEntry, NoMemory};
+use prefix_manager::PrefixManagerModule;
 use spark_node::SparkModule;
 
 /// A module of any kind that implements `Module`.
@@ -14,8 +18,16 @@ use spark_node::SparkModule;
 pub enum AnyModule {
     /// A node's Spark.
     Spark(SparkModule),
+    /// A node's LinkMonitor.
+    LinkMonitor(LinkMonitorModule),
+    /// A node's PrefixManager.
+    PrefixManager(PrefixManagerModule),
     /// A node's store.
     Store(KvModule),
+    /// A node's Decision.
+    Decision(DecisionModule),
+    /// A node's Fib.
+    Fib(FibModule),
     /// A link.
     Link(LinkModule),
 }
@@ -60,7 +72,11 @@ impl Module for AnyModule {
     fn fits(&self, item: &Item) -> bool {
         match self {
             AnyModule::Spark(spark) => spark.fits(item),
+            AnyModule::LinkMonitor(monitor) => monitor.fits(item),
+            AnyModule::PrefixManager(manager) => manager.fits(item),
             AnyModule::Store(store) => store.fits(item),
+            AnyModule::Decision(decision) => decision.fits(item),
+            AnyModule::Fib(fib) => fib.fits(item),
             AnyModule::Link(link) => link.fits(item),
         }
     }
@@ -69,7 +85,11 @@ impl Module for AnyModule {
     fn turn(&mut self, lane: u32, item: Item, out: &mut Outbox) -> Result<u64, NoMemory> {
         match self {
             AnyModule::Spark(spark) => spark.turn(lane, item, out),
+            AnyModule::LinkMonitor(monitor) => monitor.turn(lane, item, out),
+            AnyModule::PrefixManager(manager) => manager.turn(lane, item, out),
             AnyModule::Store(store) => store.turn(lane, item, out),
+            AnyModule::Decision(decision) => decision.turn(lane, item, out),
+            AnyModule::Fib(fib) => fib.turn(lane, item, out),
             AnyModule::Link(link) => link.turn(lane, item, out),
         }
     }

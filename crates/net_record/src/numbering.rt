@@ -12,15 +12,24 @@ use or_actor::LinkEnd;
 use or_base::{Name, NoMemory, Seq};
 use std::alloc::Global;
 
-/// The modules of a node of each kind, in the order of their numbers; a full node isn't run yet, and has those of stores.
+/// The modules of a node of each kind, in the order of their numbers.
 fn modules_of(alloc: Global, kind: Kind) -> Result<Vec<NodeModule>, NoMemory>
     ensures modules { IfOk result (λ modules. modules.items ≡ modules_of kind) }
     ensures few { IfOk result (λ modules. vec_len modules ≤ most_modules) }
 {
     let mut modules = Vec::new(alloc);
     match kind {
-        Kind::Stores | Kind::Full => {
+        Kind::Stores => {
             modules.push(NodeModule::Store)?;
+            modules.push(NodeModule::Desk)?;
+        }
+        Kind::Full => {
+            modules.push(NodeModule::Spark)?;
+            modules.push(NodeModule::LinkMonitor)?;
+            modules.push(NodeModule::PrefixManager)?;
+            modules.push(NodeModule::Store)?;
+            modules.push(NodeModule::Decision)?;
+            modules.push(NodeModule::Fib)?;
             modules.push(NodeModule::Desk)?;
         }
     }
@@ -33,8 +42,12 @@ fn kind_number(module_: NodeModule) -> u32
 {
     match module_ {
         NodeModule::Spark => 0,
-        NodeModule::Store => 1,
-        NodeModule::Desk => 2,
+        NodeModule::LinkMonitor => 1,
+        NodeModule::PrefixManager => 2,
+        NodeModule::Store => 3,
+        NodeModule::Decision => 4,
+        NodeModule::Fib => 5,
+        NodeModule::Desk => 6,
     }
 }
 
@@ -107,13 +120,14 @@ fn add_node(
     all: &mut Vec<Role>,
     modules: &[NodeModule],
     links: &[LinkDecl],
+    ttl: Option<u64>,
     place: usize,
     node: &NodeDecl,
 ) -> Result<(), NoMemory>
     requires few { length modules.now ≤ most_modules }
     requires links { length links.now ≤ most_links }
     requires place { place < most_nodes }
-    ensures added { OnOk result (all.new.items ≡ all.old.items ++ node_roles modules.now links.now (place, node.now)) }
+    ensures added { OnOk result (all.new.items ≡ all.old.items ++ node_roles modules.now links.now ttl (place, node.now)) }
     ensures len { OnOk result (vec_len all.new ≡ vec_len all.old + length modules.now) }
     ensures small { All HasSmallNumber all.old.items → OnOk result (All HasSmallNumber all.new.items) }
 {
@@ -123,6 +137,7 @@ fn add_node(
         let setup = NodeSetup {
             store: store as u32,
             ends: Seq::from_vec(ends),
+            ttl,
         };
         all.push(Role::Node {
             module: *module_,
@@ -140,17 +155,18 @@ fn add_nodes(
     all: &mut Vec<Role>,
     modules: &[NodeModule],
     links: &[LinkDecl],
+    ttl: Option<u64>,
     nodes: &[NodeDecl],
 ) -> Result<(), NoMemory>
     requires few { length modules.now ≤ most_modules }
     requires links { length links.now ≤ most_links }
     requires nodes { length nodes.now ≤ most_nodes }
-    ensures added { OnOk result (all.new.items ≡ all.old.items ++ flat_map (node_roles modules.now links.now) (enumerate_from 0 nodes.now)) }
+    ensures added { OnOk result (all.new.items ≡ all.old.items ++ flat_map (node_roles modules.now links.now ttl) (enumerate_from 0 nodes.now)) }
     ensures len { OnOk result (vec_len all.new ≡ vec_len all.old + length nodes.now * length modules.now) }
     ensures small { All HasSmallNumber all.old.items → OnOk result (All HasSmallNumber all.new.items) }
 {
     for (place, node) in nodes.iter().enumerate() {
-        add_node(alloc, all, modules, links, place, node)?;
+        add_node(alloc, all, modules, links, ttl, place, node)?;
     }
     Ok(())
 }
@@ -182,7 +198,14 @@ pub fn roles(alloc: Global, scenario: &Scenario) -> Result<Vec<Role>, NoMemory>
     let mut all = Vec::new(alloc);
     all.push(Role::Driver)?;
     let links = scenario.links();
-    add_nodes(alloc, &mut all, modules.as_slice(), links, scenario.nodes())?;
+    add_nodes(
+        alloc,
+        &mut all,
+        modules.as_slice(),
+        links,
+        scenario.ttl,
+        scenario.nodes(),
+    )?;
     add_links(&mut all, links)?;
     Ok(all)
 }

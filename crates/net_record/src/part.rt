@@ -1,14 +1,22 @@
 ghost use Rattle.std.specs.Prelude.{◌≡◌, ◌<◌, All, ◌-◌, ◌^◌, ◌++◌, length, option_map, slice_index_or, IsTrue, IfOk, OnOk};
 ghost use Rattle.or_actor.specs.Fits.{link_number_end};
+ghost use Rattle.spark_node.specs.Spark.{new_spark};
+ghost use Rattle.link_monitor.specs.LinkMonitor.{new_link_monitor};
+ghost use Rattle.prefix_manager.specs.PrefixManager.{new_prefix_manager};
+ghost use Rattle.net_record.specs.declared.kinds.AnyModule.TheVariants.{Spark, LinkMonitor, PrefixManager};
 ghost use Rattle.net_record.specs.Actors.{node_part};
 
 use crate::desk::Desk;
 use crate::kinds::AnyModule;
 use crate::role::{NodeModule, NodeSetup, Role};
+use decision_core::DecisionModule;
+use fib_core::FibModule;
 use kv_store::KvModule;
+use link_monitor::LinkMonitorModule;
 use net_link::LinkModule;
 use or_actor::{LinkEnd, Module, Outbox, has_small_link};
 use or_base::{Item, JournalEntry, Kind, Name, NoMemory};
+use prefix_manager::PrefixManagerModule;
 use spark_node::SparkModule;
 use std::alloc::Global;
 
@@ -34,28 +42,55 @@ fn copied_ends(alloc: Global, ends: &[LinkEnd]) -> Result<Vec<LinkEnd>, NoMemory
     Ok(copies)
 }
 
-/// A module of a node as it starts.
+/// The Spark of a node as it starts.
+fn new_spark(alloc: Global, node: Name, setup: &NodeSetup) -> Result<AnyModule, NoMemory>
+    requires { All (λ end. end.link < link_number_end) setup.now.ends }
+    ensures { IfOk result (λ m. m ≡ Spark (new_spark node setup.now.ends)) }
+{
+    let ends = copied_ends(alloc, setup.ends.as_slice())?;
+    Ok(AnyModule::Spark(SparkModule::new(alloc, node, ends)?))
+}
+
+/// The LinkMonitor of a node as it starts.
+fn new_link_monitor(alloc: Global, node: Name, setup: &NodeSetup) -> Result<AnyModule, NoMemory>
+    ensures { IfOk result (λ m. m ≡ LinkMonitor (new_link_monitor node setup.now.ends setup.now.ttl)) }
+{
+    let ends = copied_ends(alloc, setup.ends.as_slice())?;
+    let monitor = LinkMonitorModule::new(alloc, node, ends, setup.ttl)?;
+    Ok(AnyModule::LinkMonitor(monitor))
+}
+
+/// The PrefixManager of a node as it starts.
+fn new_prefix_manager(alloc: Global, node: Name, setup: &NodeSetup) -> Result<AnyModule, NoMemory>
+    ensures { IfOk result (λ m. m ≡ PrefixManager (new_prefix_manager node setup.now.ttl)) }
+{
+    let manager = PrefixManagerModule::new(alloc, node, setup.ttl)?;
+    Ok(AnyModule::PrefixManager(manager))
+}
+
+/// A module of a node as it starts, in a laboratory of this kind.
 fn node_part(
     alloc: Global,
+    kind: Kind,
     module_: NodeModule,
     node: Name,
     setup: &NodeSetup,
 ) -> Result<Part, NoMemory>
     requires { All (λ end. end.link < link_number_end) setup.now.ends }
-    ensures { IfOk result (λ part. part ≡ node_part module_ node setup.now) }
+    ensures { IfOk result (λ part. part ≡ node_part kind module_ node setup.now) }
 {
-    match module_ {
-        NodeModule::Spark => {
-            let ends = copied_ends(alloc, setup.ends.as_slice())?;
-            Ok(Part::Module(AnyModule::Spark(SparkModule::new(alloc, node, ends)?)))
+    let part = match module_ {
+        NodeModule::Spark => Part::Module(new_spark(alloc, node, setup)?),
+        NodeModule::LinkMonitor => Part::Module(new_link_monitor(alloc, node, setup)?),
+        NodeModule::PrefixManager => Part::Module(new_prefix_manager(alloc, node, setup)?),
+        NodeModule::Store => Part::Module(AnyModule::Store(KvModule::new(alloc, kind, node)?)),
+        NodeModule::Decision => {
+            Part::Module(AnyModule::Decision(DecisionModule::new(alloc, node)))
         }
-        NodeModule::Store => Ok(Part::Module(AnyModule::Store(KvModule::new(
-            alloc,
-            Kind::Stores,
-            node,
-        )?))),
-        NodeModule::Desk => Ok(Part::Desk(Desk::new(alloc, node, setup.store))),
-    }
+        NodeModule::Fib => Part::Module(AnyModule::Fib(FibModule::new(node))),
+        NodeModule::Desk => Part::Desk(Desk::new(alloc, node, setup.store)),
+    };
+    Ok(part)
 }
 
 impl Part {
@@ -64,10 +99,10 @@ impl Part {
     ghost use Rattle.or_actor.specs.Fits.{has_small_link, have_small_links};
     ghost use Rattle.net_record.specs.Small.{HasSmallNumber};
 
-    /// What an actor is as it starts.
-    pub(crate) fn new(alloc: Global, role: &Role) -> Result<Part, NoMemory>
+    /// What an actor is as it starts, in a laboratory of this kind.
+    pub(crate) fn new(alloc: Global, kind: Kind, role: &Role) -> Result<Part, NoMemory>
         requires { HasSmallNumber role.now }
-        ensures { IfOk result (λ part. part ≡ new_part role.now) }
+        ensures { IfOk result (λ part. part ≡ new_part kind role.now) }
     {
         match role {
             Role::Driver => Ok(Part::Driver),
@@ -75,9 +110,9 @@ impl Part {
                 module,
                 node,
                 setup,
-            } => node_part(alloc, *module, node.copied()?, setup),
+            } => node_part(alloc, kind, *module, node.copied()?, setup),
             Role::Link { link, a, b } => {
-                let link = LinkModule::new(alloc, Kind::Stores, *link, a.copied()?, b.copied()?);
+                let link = LinkModule::new(alloc, kind, *link, a.copied()?, b.copied()?);
                 Ok(Part::Module(AnyModule::Link(link)))
             }
         }

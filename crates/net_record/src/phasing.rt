@@ -3,9 +3,10 @@ ghost use Rattle.or_base.specs.declared.item.Item.TheVariants.{Persist, Script};
 ghost use Rattle.or_actor.specs.declared.output.Output.TheVariants.{To};
 ghost use Rattle.or_actor.specs.Fits.{has_small_link, have_small_links};
 ghost use Rattle.net_laboratory.specs.Small.{NamesSmallLink};
+ghost use Rattle.net_laboratory.specs.Sound.{is_routing_command};
 ghost use Rattle.net_laboratory.specs.Limits.{most_links};
 ghost use Rattle.net_record.specs.Roles.{roles, most_actors};
-ghost use Rattle.net_record.specs.Phases.{ups, module_takes_ticks, takes_ticks, tick_for, ticks, to_module, to_link, issues_of, moment_after, phases_from, phases};
+ghost use Rattle.net_record.specs.Phases.{ups, module_takes_ticks, takes_ticks, tick_for, ticks, module_restarts, restarts_with, restart_for, restarts, to_module, to_link, issues_of, moment_after, phases_from, phases};
 ghost use Rattle.net_record.specs.Small.{IssuesSmallLinks};
 
 use crate::numbering::{link_number, module_number, roles};
@@ -38,8 +39,11 @@ fn module_takes_ticks(module_: NodeModule) -> bool
     ensures { result ≡ module_takes_ticks module_ }
 {
     match module_ {
-        NodeModule::Spark | NodeModule::Store => true,
-        NodeModule::Desk => false,
+        NodeModule::Spark | NodeModule::Store | NodeModule::Fib => true,
+        NodeModule::LinkMonitor
+        | NodeModule::PrefixManager
+        | NodeModule::Decision
+        | NodeModule::Desk => false,
     }
 }
 
@@ -77,6 +81,64 @@ fn add_ticks(issues: &mut Vec<Output>, at: u64, all: &[Role]) -> Result<(), NoMe
 {
     for (number, role) in all.iter().enumerate() {
         add_tick(issues, at, number as u32, role)?;
+    }
+    Ok(())
+}
+
+/// A module of a node restarts with it.
+fn module_restarts(module_: NodeModule) -> bool
+    ensures { result ≡ module_restarts module_ }
+{
+    match module_ {
+        NodeModule::Spark | NodeModule::Store => true,
+        NodeModule::LinkMonitor
+        | NodeModule::PrefixManager
+        | NodeModule::Decision
+        | NodeModule::Fib
+        | NodeModule::Desk => false,
+    }
+}
+
+/// The actor is a module of the node with this name, and restarts with it.
+fn restarts_with(name: &Name, role: &Role) -> bool
+    ensures { result ≡ restarts_with name.now role.now }
+{
+    match role {
+        Role::Node { module, node, .. } => {
+            module_restarts(*module) && node.as_str() == name.as_str()
+        }
+        _ => false,
+    }
+}
+
+/// Adds a Restart for one actor, if it restarts with the node.
+fn add_restart(
+    issues: &mut Vec<Output>,
+    name: &Name,
+    number: u32,
+    role: &Role,
+) -> Result<(), NoMemory>
+    ensures added { OnOk result (issues.new.items ≡ issues.old.items ++ restart_for name.now (number, role.now)) }
+    ensures small { IsTrue (have_small_links issues.old.items) → OnOk result (IsTrue (have_small_links issues.new.items)) }
+{
+    if restarts_with(name, role) {
+        issues.push(Output::To {
+            lane: number,
+            item: Item::Restart,
+        })?;
+    }
+    Ok(())
+}
+
+/// Adds a Restart for each module of the node that restarts with it.
+#[tactic(auto, using(crate::proofs::Enumerated::flat_more))]
+fn add_restarts(issues: &mut Vec<Output>, name: &Name, all: &[Role]) -> Result<(), NoMemory>
+    requires { length all.now ≤ most_actors }
+    ensures added { OnOk result (issues.new.items ≡ issues.old.items ++ restarts all.now name.now) }
+    ensures small { IsTrue (have_small_links issues.old.items) → OnOk result (IsTrue (have_small_links issues.new.items)) }
+{
+    for (number, role) in all.iter().enumerate() {
+        add_restart(issues, name, number as u32, role)?;
     }
     Ok(())
 }
@@ -140,6 +202,52 @@ fn script_item(from: &Name, acts: &Seq<Act>) -> Result<Item, NoMemory>
     Ok(Item::Script { from, acts })
 }
 
+/// Adds what the driver sends for a command of a full laboratory.
+#[tactic(auto, unfolding(crate::specs::Phases::issues_of))]
+fn add_full_issues(
+    issues: &mut Vec<Output>,
+    all: &[Role],
+    command: &Command,
+) -> Result<(), NoMemory>
+    requires few { length all.now ≤ most_actors }
+    requires small { NamesSmallLink command.now }
+    requires kind { IsTrue (is_routing_command command.now) }
+    ensures added { OnOk result (issues.new.items ≡ issues.old.items ++ issues_of all.now command.now) }
+    ensures small { IsTrue (have_small_links issues.old.items) → OnOk result (IsTrue (have_small_links issues.new.items)) }
+{
+    match command {
+        Command::Drain { node, on } => {
+            let drain = Item::Drain { on: *on };
+            add_to_module(issues, all, NodeModule::LinkMonitor, node, drain)?;
+        }
+        Command::LinkDrain { node, link, on } => {
+            let drain = Item::LinkDrain {
+                link: *link,
+                on: *on,
+            };
+            add_to_module(issues, all, NodeModule::LinkMonitor, node, drain)?;
+        }
+        Command::Metric { node, link, metric } => {
+            let metric = Item::Metric {
+                link: *link,
+                metric: *metric,
+            };
+            add_to_module(issues, all, NodeModule::LinkMonitor, node, metric)?;
+        }
+        Command::Advertise { node, entry } => {
+            let advertise = Item::Advertise { entry: *entry };
+            add_to_module(issues, all, NodeModule::PrefixManager, node, advertise)?;
+        }
+        Command::Withdraw { node, prefix } => {
+            let withdraw = Item::Withdraw { prefix: *prefix };
+            add_to_module(issues, all, NodeModule::PrefixManager, node, withdraw)?;
+        }
+        // The program runs no other command yet.
+        _other => {}
+    }
+    Ok(())
+}
+
 /// Adds what the driver sends for a command.
 #[tactic(auto, unfolding(crate::specs::Phases::issues_of))]
 fn add_issues(issues: &mut Vec<Output>, all: &[Role], command: &Command) -> Result<(), NoMemory>
@@ -171,9 +279,7 @@ fn add_issues(issues: &mut Vec<Output>, all: &[Role], command: &Command) -> Resu
             let key = key.copied()?;
             add_to_module(issues, all, NodeModule::Store, node, Item::Unset { key })?;
         }
-        Command::Restart { node } => {
-            add_to_module(issues, all, NodeModule::Store, node, Item::Restart)?;
-        }
+        Command::Restart { node } => add_restarts(issues, node, all)?,
         Command::Up { link } => add_to_link(issues, all, *link, Item::Up)?,
         Command::Down { link } => add_to_link(issues, all, *link, Item::Down)?,
         Command::Script { link, from, acts } => {
@@ -183,8 +289,8 @@ fn add_issues(issues: &mut Vec<Output>, all: &[Role], command: &Command) -> Resu
             let key = key.copied()?;
             add_to_module(issues, all, NodeModule::Desk, node, Item::Get { key })?;
         }
-        // The program runs no other command yet.
-        _other => {}
+        Command::Settle { .. } => {}
+        other => add_full_issues(issues, all, other)?,
     }
     Ok(())
 }

@@ -1,12 +1,15 @@
 //! Which lane a writer names by a port.
 
-ghost use Rattle.std.specs.Prelude.{◌≡◌, ◌+◌, ◌<◌, ◌≤◌, ◌^◌, [], ◌∷◌, ◌++◌, ℕ, length, slice_index_or, option_map, IfOk, OnOk};
+ghost use Rattle.std.specs.Prelude.{◌≡◌, ◌+◌, ◌<◌, ◌≤◌, ◌^◌, [], ◌∷◌, ◌++◌, ℕ, length, slice_index_or, option_map, IfOk, OnOk, OnErr};
+ghost use Rattle.std.specs.BTreeMap.{get};
+ghost use Rattle.std.specs.Ordering.{nat_cmp};
 ghost use Rattle.net_record.specs.Wires.{lane_of};
-ghost use Rattle.net_record.specs.Ports.{port_if, ports_of, lane_at_port, ArePortsOf};
+ghost use Rattle.net_record.specs.Ports.{port_if, ports_of, lane_at_port, lane_with, ArePortsOf};
 
 use crate::wire::Wire;
 use or_base::NoMemory;
 use std::alloc::Global;
+use std::collections::BTreeMap;
 use std::marker::Model;
 
 /// A port of a writer, and the number of the lane that it names by it.
@@ -16,19 +19,36 @@ pub struct Port {
     pub lane: u32,
 }
 
-/// The ports of one writer, in the order of its lanes.
+/// The ports of one writer, in the order of its lanes, and the first lane of each by its port.
 #[derive(Drop)]
 struct WriterPorts {
     ports: Vec<Port>,
+    lanes: BTreeMap<u32, u32>,
 }
 
 impl Model for WriterPorts {
-    ghost use Rattle.std.specs.Prelude.{List};
+    ghost use Rattle.std.specs.Prelude.{◌≡◌, List, ℕ};
+    ghost use Rattle.std.specs.BTreeMap.{get};
+    ghost use Rattle.std.specs.Ordering.{nat_cmp};
     ghost use Rattle.net_record.specs.declared.ports.Port.{Port};
+    ghost use Rattle.net_record.specs.Ports.{lane_at_port};
 
     ghost Value = { List Port };
 
     ghost view = { λ own. own.ports.items };
+
+    ghost invariant = { λ own. (port : ℕ) → get nat_cmp own.lanes port ≡ lane_at_port own.ports.items port };
+}
+
+/// Adds the lane of a port, unless the port has one.
+fn add_lane(lanes: &mut BTreeMap<u32, u32>, own: Port) -> Result<(), NoMemory>
+    ensures ok { OnOk result ((port : ℕ) → get nat_cmp lanes.new port ≡ lane_with (get nat_cmp lanes.old port) own port) }
+    ensures err { OnErr result ((port : ℕ) → get nat_cmp lanes.new port ≡ get nat_cmp lanes.old port) }
+{
+    if !lanes.contains_key(&own.port) {
+        lanes.insert(own.port, own.lane)?;
+    }
+    Ok(())
 }
 
 impl WriterPorts {
@@ -38,6 +58,7 @@ impl WriterPorts {
     {
         WriterPorts {
             ports: Vec::new(alloc),
+            lanes: BTreeMap::new(alloc),
         }
     }
 
@@ -45,7 +66,9 @@ impl WriterPorts {
     fn add(&mut self, port: Port) -> Result<(), NoMemory>
         ensures { OnOk result (self.new ≡ self.old ++ port ∷ []) }
     {
-        self.ports.push(port)?;
+        self.ports.reserve(1)?;
+        add_lane(&mut self.lanes, port)?;
+        self.ports.push_reserved(port);
         Ok(())
     }
 
@@ -53,13 +76,7 @@ impl WriterPorts {
     fn lane(&self, port: u32) -> Option<u32>
         ensures { result ≡ lane_at_port self.now port }
     {
-        let ports = self.ports.as_slice();
-        for own in ports {
-            if own.port == port {
-                return Some(own.lane);
-            }
-        }
-        None
+        self.lanes.get(&port).copied()
     }
 }
 

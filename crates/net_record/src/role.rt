@@ -6,8 +6,16 @@ use or_base::{Name, Seq};
 pub enum NodeModule {
     /// Its Spark, which finds neighbours.
     Spark,
+    /// Its LinkMonitor, which publishes them.
+    LinkMonitor,
+    /// Its PrefixManager, which publishes prefixes.
+    PrefixManager,
     /// Its store.
     Store,
+    /// Its Decision, which computes routes.
+    Decision,
+    /// Its Fib, which programs them.
+    Fib,
     /// Its desk, which answers questions.
     Desk,
 }
@@ -19,6 +27,8 @@ pub struct NodeSetup {
     pub store: u32,
     /// The ends of the node's links, in the order of the links' numbers.
     pub ends: Seq<LinkEnd>,
+    /// The lifetime of the records that the node publishes, in milliseconds.
+    pub ttl: Option<u64>,
 }
 
 /// What an actor is. Actors are numbered from 0: the driver, then the modules of the nodes in order, then the links.

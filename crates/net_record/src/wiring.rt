@@ -6,7 +6,10 @@ ghost use Rattle.net_record.specs.Wired.{JoinsBelow};
 
 use crate::role::{NodeModule, Role};
 use crate::wire::Wire;
-use or_actor::{DESK_PORT, END_B_PORTS, FIRST_LINK_PORT, SPARK_PORT, STORE_PORT};
+use or_actor::{
+    DECISION_PORT, DESK_PORT, END_B_PORTS, FIB_PORT, FIRST_LINK_PORT, LINK_MONITOR_PORT,
+    PREFIX_MANAGER_PORT, SPARK_PORT, STORE_PORT,
+};
 use or_base::{Name, NoMemory};
 use std::alloc::Global;
 
@@ -15,7 +18,13 @@ fn is_driven(module_: NodeModule) -> bool
     ensures { result ≡ is_driven module_ }
 {
     match module_ {
-        NodeModule::Spark | NodeModule::Store | NodeModule::Desk => true,
+        NodeModule::Spark
+        | NodeModule::LinkMonitor
+        | NodeModule::PrefixManager
+        | NodeModule::Store
+        | NodeModule::Fib
+        | NodeModule::Desk => true,
+        NodeModule::Decision => false,
     }
 }
 
@@ -25,7 +34,11 @@ fn meets_links(module_: NodeModule) -> bool
 {
     match module_ {
         NodeModule::Spark | NodeModule::Store => true,
-        NodeModule::Desk => false,
+        NodeModule::LinkMonitor
+        | NodeModule::PrefixManager
+        | NodeModule::Decision
+        | NodeModule::Fib
+        | NodeModule::Desk => false,
     }
 }
 
@@ -36,7 +49,11 @@ fn port_of_module(module_: NodeModule) -> u32
 {
     match module_ {
         NodeModule::Spark => SPARK_PORT,
+        NodeModule::LinkMonitor => LINK_MONITOR_PORT,
+        NodeModule::PrefixManager => PREFIX_MANAGER_PORT,
         NodeModule::Store => STORE_PORT,
+        NodeModule::Decision => DECISION_PORT,
+        NodeModule::Fib => FIB_PORT,
         NodeModule::Desk => DESK_PORT,
     }
 }
@@ -45,8 +62,15 @@ fn port_of_module(module_: NodeModule) -> u32
 fn has_items_within(from: NodeModule, to: NodeModule) -> bool
     ensures { result ≡ has_items_within from to }
 {
-    let _pair = (from, to);
-    false
+    matches!(
+        (from, to),
+        (NodeModule::Spark, NodeModule::LinkMonitor)
+            | (NodeModule::LinkMonitor, NodeModule::Store)
+            | (NodeModule::PrefixManager, NodeModule::Store)
+            | (NodeModule::Store, NodeModule::Decision)
+            | (NodeModule::Decision, NodeModule::PrefixManager)
+            | (NodeModule::Decision, NodeModule::Fib)
+    )
 }
 
 /// The node is an end of a link between a and b.

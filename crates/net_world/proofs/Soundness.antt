@@ -5,6 +5,7 @@ use Rattle.std.proofs.lemmas.Bool.{cases_lt, false≢true}
 use Rattle.std.proofs.lemmas.List.{length-map, length-replicate, get_or_past}
 use Rattle.std.proofs.lemmas.List.Elements.{All-nil, All-cons, All-set, All-get_or, All-same, All-head, All-tail, All-weaker, All-replicate, All-map}
 use Rattle.or_base.specs.declared.item.Stamped.{Stamped}
+use Rattle.or_base.specs.declared.kind.Kind.{Kind}
 use Rattle.or_base.specs.TurnDone.{TurnDone}
 use Rattle.net_record.specs.declared.role.Role.{Role}
 use Rattle.net_record.specs.declared.wire.Wire.{Wire}
@@ -115,21 +116,21 @@ sound_turn w lane reader s others left lanes turns actors at stamp sound e is n 
     (stay.sound (done_in w + 1) most (lanes_weaker (done_in w) (done_in w + 1) left (omega arith) kept))
     (All-same (IsClockedBelow (done_in w + 1)) actors (actors_after w.actors reader m) became (clocks_after (done_in w) w.actors reader m own sound.clocks))
 
-new_clocks : (all : List Role) → All (IsClockedBelow 0) (map new_actor all)
-new_clocks all = All-map (IsClockedBelow 0) new_actor all (λ k d h. (omega arith, All-nil (IsAtMost 0)))
+new_clocks : (kind : Kind) (all : List Role) → All (IsClockedBelow 0) (map (new_actor kind) all)
+new_clocks kind all = All-map (IsClockedBelow 0) (new_actor kind) all (λ k d h. (omega arith, All-nil (IsAtMost 0)))
 
 -- the world before anything is done
-pub sound_start : (wires : List Wire) (all : List Role) (lanes : List (List Stamped)) (actors : List ActorState) (turns : List TurnDone) (settles : List SettleDone)
-    → length wires < 2 ^ 32 → All (JoinsBelow (length all)) wires → lanes ≡ replicate (length wires) [] → actors ≡ map new_actor all → turns ≡ [] → settles ≡ []
+pub sound_start : (kind : Kind) (wires : List Wire) (all : List Role) (lanes : List (List Stamped)) (actors : List ActorState) (turns : List TurnDone) (settles : List SettleDone)
+    → length wires < 2 ^ 32 → All (JoinsBelow (length all)) wires → lanes ≡ replicate (length wires) [] → actors ≡ map (new_actor kind) all → turns ≡ [] → settles ≡ []
     → IsSound (record { wires = wires; lanes = lanes; actors = actors; turns = turns; settles = settles })
-sound_start wires all lanes actors turns settles few readers e h t s = record {
+sound_start kind wires all lanes actors turns settles few readers e h t s = record {
   wired = record {
     as_many = ap length e ∙ length-replicate (length wires) [];
-    ends = subst (λ n. All (JoinsBelow n) wires) (sym (ap length h ∙ length-map all new_actor)) readers;
+    ends = subst (λ n. All (JoinsBelow n) wires) (sym (ap length h ∙ length-map all (new_actor kind))) readers;
   };
   few = few;
   items = subst (λ ls. All (IsSoundLane (length turns + length settles)) ls) (sym e) (All-replicate (IsSoundLane (length turns + length settles)) (length wires) [] (All-nil (IsSoundItem (length turns + length settles))));
-  clocks = clocks_weaker 0 (length turns + length settles) actors (omega arith) (subst (λ xs. All (IsClockedBelow 0) xs) (sym h) (new_clocks all));
+  clocks = clocks_weaker 0 (length turns + length settles) actors (omega arith) (subst (λ xs. All (IsClockedBelow 0) xs) (sym h) (new_clocks kind all));
 }
 
 driver_below : (n : ℕ) (actors : List ActorState) → All (IsClockedBelow n) actors → driver_clock actors ≤ n

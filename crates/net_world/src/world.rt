@@ -62,7 +62,7 @@ impl World {
         let all = roles(alloc, scenario)?;
         let wiring = Wiring::new(alloc, wires(alloc, all.as_slice())?)?;
         let lanes = Lanes::new(alloc, wiring.len())?;
-        let actors = new_actors(alloc, all.as_slice())?;
+        let actors = new_actors(alloc, scenario.kind, all.as_slice())?;
         let turns = Vec::new(alloc);
         let settles = Vec::new(alloc);
         Ok(World {

@@ -8,7 +8,7 @@ use Rattle.net_record.proofs.numbering.add_nodes.Given as goal
 -- the modules so far and those of the nodes that are left
 abbrev pub invariant-loop-place : goal.invariant-loop-place
 invariant-loop-place l = record {
-  added : l.all.items ++ flat_map (node_roles l.modules l.links) (enumerate_from l.place (drop l.place l.nodes)) ≡ l.fn.all.items ++ flat_map (node_roles l.modules l.links) (enumerate_from 0 l.nodes);
+  added : l.all.items ++ flat_map (node_roles l.modules l.links l.ttl) (enumerate_from l.place (drop l.place l.nodes)) ≡ l.fn.all.items ++ flat_map (node_roles l.modules l.links l.ttl) (enumerate_from 0 l.nodes);
   len : vec_len l.all ≡ vec_len l.fn.all + l.place * length l.modules;
   small : All HasSmallNumber l.fn.all.items → All HasSmallNumber l.all.items;
 }
