@@ -1,0 +1,4 @@
+pub mod Arcs
+pub mod Changes
+pub mod State
+pub mod Places

@@ -1,0 +1,17 @@
+//! Which nodes a prefix is routed to, of those that offer it.
+//!
+//! Offers count where the node that offers is this one or can be reached; those of nodes that take no transit traffic are
+//! left out, unless there are no others. Of what counts the best have the highest path preference, then the highest
+//! source preference, then the lowest distance. Selected are the nearest of the best; a node that is among the best itself has
+//! no route (`specs/Selection.antt`). `select` gives exactly that.
+//!
+//! Each step is a filter that leaves some of the offers in their order, so selecting takes no memory but for its answer.
+//!
+//! The files: `offer` (plain data), `choice`.
+#![tactic(auto)]
+
+mod choice;
+mod offer;
+
+pub use choice::select;
+pub use offer::{Offer, Selected};

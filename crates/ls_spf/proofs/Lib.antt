@@ -1,0 +1,15 @@
+pub mod Listed
+pub mod Walks
+pub mod Exact
+pub mod Certificate
+pub mod Hops
+pub mod Back
+pub mod Seeing
+pub mod Settling
+pub mod Steps
+pub mod Leaving
+pub mod Making
+pub mod Filling
+pub mod Tight
+pub mod Alone
+pub mod Examples
