@@ -215,6 +215,28 @@ end
 '
 run_text "journals of 1,500 entries" 0 "$long_journal" replay < <(overwritten)
 
+# ---- the farthest route
+
+# A line of 64 nodes, of which each link has the greatest metric at both ends: 63 times 2,147,483,647.
+far_line() {
+    echo '{"do":"lab","kind":"full"}'
+    local number
+    for number in $(seq 0 63); do echo '{"do":"node","name":"n'"$number"'"}'; done
+    for number in $(seq 0 62); do
+        echo '{"do":"link","a":"n'"$number"'","b":"n'"$((number + 1))"'","am":2147483647,"bm":2147483647}'
+    done
+    echo '{"do":"advertise","node":"n63","prefix":"10.63.0.0/16"}'
+    echo "$silent"
+    echo '{"do":"ask","node":"n0","prefix":"10.63.0.0/16"}'
+    echo "$silent"
+}
+far_route='settle 1 moment 0
+settle 2 moment 0
+ask n0 10.63.0.0/16 route 135291469761 if-n1
+end
+'
+run_text "a line of 64 nodes with the greatest metrics" 0 "$far_route" replay < <(far_line)
+
 # ---- a small stack
 
 # 64 kB are enough, but for a line of lists nested as deep as may be.

@@ -1,1 +1,4 @@
+pub mod Scratch
+pub mod Law
+pub mod Reach
 pub mod Decision

@@ -1,1 +1,10 @@
+pub mod Chosen
+pub mod Deltas
+pub mod Entries
+pub mod Leading
+pub mod Order
+pub mod Places
+pub mod SameRoutes
+pub mod Tables
+pub mod Tested
 pub mod Walked

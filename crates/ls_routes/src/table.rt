@@ -1,6 +1,6 @@
-ghost use Rattle.std.specs.Prelude.{◌≡◌, [], ◌∷◌, ◌++◌, fold, map, is_none, not, IfOk, OnOk, option_map, if◌then◌else◌};
+ghost use Rattle.std.specs.Prelude.{◌≡◌, [], ◌∷◌, ◌++◌, fold, map, is_none, not, IfOk, OnOk, option_map, length, ◌==◌, if◌then◌else◌};
 ghost use Rattle.std.specs.List.{filter};
-ghost use Rattle.ls_routes.specs.Routes.{route_to, without_route, with_route, applied, are_same_names, is_same_route, stands_in, delta_between};
+ghost use Rattle.ls_routes.specs.Routes.{IsTable, route_to, without_route, with_route, applied, are_same_names, is_same_route, stands_in, delta_between};
 
 use or_base::{Delta, Name, NoMemory, Prefix, Route, Seq};
 use std::alloc::Global;
@@ -18,10 +18,13 @@ impl Model for RouteDb {
     ghost use Rattle.std.specs.Prelude.{List};
     ghost use Rattle.or_base.specs.declared.prefix.Prefix.{Prefix};
     ghost use Rattle.or_base.specs.declared.route.Route.{Route};
+    ghost use Rattle.ls_routes.specs.Routes.{IsTable};
 
     ghost Value = { List (Prefix × Route) };
 
     ghost view = { λ db. db.routes.entries };
+
+    ghost invariant = { λ db. IsTable db.routes.entries };
 }
 
 /// The names are the same, in the same order.
@@ -67,7 +70,7 @@ fn gone(
 fn add_more(set: &mut Vec<Route>, route: &Route, others: &RouteDb) -> Result<(), NoMemory>
     ensures { OnOk result (set.new.items ≡ set.old.items ++ (if not (stands_in (route_to others.now route.now.prefix) route.now) then route.now ∷ [] else [])) }
 {
-    if !others.has(route) {
+    if !others.has(&route.prefix, route) {
         set.push(route.copied()?)?;
     }
     Ok(())
@@ -108,6 +111,27 @@ impl RouteDb {
             alloc,
             routes: BTreeMap::new(alloc),
         }
+    }
+
+    /// How many routes there are.
+    pub fn len(&self) -> usize
+        ensures { result ≡ length self.now }
+    {
+        self.routes.len()
+    }
+
+    /// There are no routes.
+    pub fn is_empty(&self) -> bool
+        ensures { result ≡ (length self.now == 0) }
+    {
+        self.routes.is_empty()
+    }
+
+    /// The routes are a table: their prefixes rise, and each stands under its own prefix. It does nothing.
+    pub fn routes_are_a_table(&self)
+        ensures { IsTable self.now }
+    {
+        let _routes = &self.routes;
     }
 
     /// The route to exactly this prefix; a shorter prefix that contains it isn't looked for. It takes no memory.
@@ -160,11 +184,11 @@ impl RouteDb {
         Ok(())
     }
 
-    /// A route to this prefix that is the same stands here.
-    fn has(&self, route: &Route) -> bool
-        ensures { result ≡ stands_in (route_to self.now route.now.prefix) route.now }
+    /// The route to this prefix is the same here. It takes no memory.
+    pub fn has(&self, prefix: &Prefix, route: &Route) -> bool
+        ensures { result ≡ stands_in (route_to self.now prefix.now) route.now }
     {
-        match self.route_of(&route.prefix) {
+        match self.route_of(prefix) {
             Some(own) => is_same_route(own, route),
             None => false,
         }
@@ -173,8 +197,11 @@ impl RouteDb {
     /// What changes from the old routes to these: the prefixes whose routes go, and the routes that are new or changed.
     #[tactic(auto, unfolding(crate::specs::Routes::delta_between))]
     pub fn delta_from(&self, old: &RouteDb) -> Result<Delta, NoMemory>
-        ensures { IfOk result (λ delta. delta ≡ delta_between old.now self.now) }
+        ensures delta { IfOk result (λ delta. delta ≡ delta_between old.now self.now) }
+        ensures leads { IfOk result (λ delta. applied old.now delta ≡ self.now) }
     {
+        self.routes_are_a_table();
+        old.routes_are_a_table();
         let del = gone(self.alloc, &old.routes, self)?;
         let set = more(self.alloc, &self.routes, old)?;
         Ok(Delta {

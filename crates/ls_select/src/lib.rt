@@ -10,8 +10,26 @@
 //! The files: `offer` (plain data), `choice`.
 #![tactic(auto)]
 
+ghost use Rattle.ls_select.specs.Laws.{SelectionIsSound, NothingSelected, SelectionIsWithinReach};
+
 mod choice;
 mod offer;
 
 pub use choice::select;
 pub use offer::{Offer, Selected};
+
+/// There is a node in a selection; each is that of a best offer, to whose node a least walk costs what the selection does; and
+/// all such are there. It does nothing.
+pub fn selection_is_sound()
+    ensures { SelectionIsSound }
+{}
+
+/// Nothing is selected exactly where no offer is within reach, or one of the best is of the node itself. It does nothing.
+pub fn nothing_selected()
+    ensures { NothingSelected }
+{}
+
+/// Offers that aren't within reach change nothing. It does nothing.
+pub fn selection_is_within_reach()
+    ensures { SelectionIsWithinReach }
+{}

@@ -1,18 +1,20 @@
--- What LinkMonitor and PrefixManager send: news of peers that are neighbours, and records for the store; no messages and no ticks.
+-- What LinkMonitor, PrefixManager and Decision send: news of peers that are neighbours, records for the store, and routes; no messages and no ticks.
 use Rattle.std.proofs.Common.{◌≡◌, ℕ, List, [], ◌∷◌, Bool, true, false, map, if◌then◌else◌, refl}
 use Rattle.std.specs.List.{Contains, AllByRecursion, flat_map}
 use Rattle.std.proofs.lemmas.List.Elements.{All-contains, All-from_recursion}
 use Rattle.or_base.specs.declared.item.Item.{Item}
-use Rattle.or_base.specs.declared.item.Item.TheVariants.{Tick, LinkDrain, Metric, Net, NeighbourUp, NeighbourDown, PeerUp, Persist}
+use Rattle.or_base.specs.declared.item.Item.TheVariants.{Tick, Entry, LinkDrain, Metric, Net, NeighbourUp, NeighbourDown, PeerUp, Persist, Routes}
 use Rattle.or_base.specs.declared.message.Msg.{Msg}
 use Rattle.or_actor.specs.declared.output.Output.{Output}
 use Rattle.or_actor.specs.declared.output.Output.TheVariants.{To}
-use Rattle.or_actor.specs.Ports.{store_port}
+use Rattle.or_actor.specs.Ports.{store_port, prefix_manager_port, fib_port}
 use Rattle.own_record.specs.declared.own_record.OwnRecord.{OwnRecord}
 use Rattle.own_record.specs.OwnRecord.{is_due, handed_over}
 use Rattle.link_monitor.specs.declared.link.MonitoredLink.{MonitoredLink}
 use Rattle.link_monitor.specs.LinkMonitor.{LinkMonitorState, is_for, link_turn, link_monitor_step}
 use Rattle.prefix_manager.specs.PrefixManager.{PrefixManagerState, prefix_manager_step}
+use Rattle.or_base.specs.declared.route.Delta.{Delta}
+use Rattle.decision_core.specs.Decision.{DecisionState, is_no_change, told_routes, decision_step}
 use Rattle.kv_agree.proofs.Lists.{all_joined}
 
 -- the item is news of a peer that the link may have, or neither a message nor a tick, and no news of a neighbour
@@ -76,3 +78,15 @@ module _ (J : ℕ → List ℕ → Type 0) where
   pub prefix_manager_sends : (s : PrefixManagerState) (item : Item) → AllByRecursion (IsTold J) (prefix_manager_step s item).1
   unfolding prefix_manager_step
   prefix_manager_sends s item = told_record s.own _ _
+
+  -- ---- Decision
+
+  told_delta : (delta : Delta) (none : Bool) → AreTold (if none then [] else To prefix_manager_port (Routes delta) ∷ To fib_port (Routes delta) ∷ [])
+  told_delta delta true = tt
+  told_delta delta false = (tt, (tt, tt))
+
+  -- all that Decision sends in a turn
+  pub decision_sends : (s : DecisionState) (item : Item) → AllByRecursion (IsTold J) (decision_step s item).1
+  unfolding decision_step
+  decision_sends s (Entry entry) = told_delta _ _
+  decision_sends s _ = tt

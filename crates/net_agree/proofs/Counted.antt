@@ -1,5 +1,5 @@
 -- How many peers and sessions a store has after so many turns, and of which kind it is.
-use Rattle.std.proofs.Common.{◌≡◌, ℕ, ◌+◌, inl, inr, List, [], ◌∷◌, Option, Some, None, length, refl, sym, ◌∙◌, subst}
+use Rattle.std.proofs.Common.{◌≡◌, ℕ, ◌+◌, inl, inr, List, [], ◌∷◌, Option, Some, None, length, refl, sym, ◌∙◌, subst, Bool}
 use Rattle.std.specs.Prelude.{slice_get}
 use Rattle.std.proofs.lemmas.List.{length_push}
 use Rattle.or_base.specs.declared.kind.Kind.{Kind}
@@ -74,9 +74,9 @@ kept_begin : (kind : Kind) (w : WorldState) (later : List Phase) → AreKept kin
 kept_begin kind w [] h = h
 kept_begin kind w (phase ∷ later) h = kept_issue kind w phase.issues h
 
-kept_settle : (kind : Kind) (moment : ℕ) (asked : List ℕ) (w : WorldState) → AreKept kind w → AreKept kind (settle moment asked w)
-kept_settle kind moment asked w h number s is =
-    subst (λ turns. IsKept kind (length turns) s) (sym (turns_settled moment asked w)) (h number s (sym (stores_settled moment asked w number) ∙ is))
+kept_settle : (kind : Kind) (moment : ℕ) (asked : List ℕ) (shows : Bool) (w : WorldState) → AreKept kind w → AreKept kind (settle moment asked shows w)
+kept_settle kind moment asked shows w h number s is =
+    subst (λ turns. IsKept kind (length turns) s) (sym (turns_settled moment asked shows w)) (h number s (sym (stores_settled moment asked shows w number) ∙ is))
 
 -- ---- a run
 
@@ -89,7 +89,7 @@ pub kept_reached : (lab : Laboratory) {w : WorldState} {later : List Phase} → 
 kept_reached lab starts = kept_begin lab.kind (start lab) (phases lab) (kept_start lab)
 kept_reached lab (turns w phase later t before legal) = kept_turn lab.kind w t.lane t.at (kept_reached lab before)
 kept_reached lab (settles w phase later before drained) =
-    kept_begin lab.kind (settle phase.moment (desks_asked phase.issues) w) later (kept_settle lab.kind phase.moment (desks_asked phase.issues) w (kept_reached lab before))
+    kept_begin lab.kind (settle phase.moment (desks_asked phase.issues) phase.shows_routes w) later (kept_settle lab.kind phase.moment (desks_asked phase.issues) phase.shows_routes w (kept_reached lab before))
 
 pub runs_are_counted : RunsAreCounted
 runs_are_counted lab w later number s reached is =

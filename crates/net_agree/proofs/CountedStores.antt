@@ -1,5 +1,5 @@
 -- The stores of a world by their numbers: what turns and settles make of each.
-use Rattle.std.proofs.Common.{◌≡◌, ℕ, zero, suc, ◌+◌, inl, inr, List, [], ◌∷◌, Option, Some, map, set, refl, sym, ap, ◌∙◌, get_or-set_same, get_or-set_other}
+use Rattle.std.proofs.Common.{◌≡◌, ℕ, zero, suc, ◌+◌, inl, inr, List, [], ◌∷◌, Option, Some, map, set, refl, sym, ap, ◌∙◌, get_or-set_same, get_or-set_other, Bool}
 use Rattle.std.specs.Prelude.{◌⊎◌, slice_get}
 use Rattle.std.proofs.lemmas.Bool.{cases_eq}
 use Rattle.std.proofs.lemmas.Option.{get_or_from_slice_get}
@@ -16,7 +16,7 @@ use Rattle.net_record.specs.declared.part.Part.{Part}
 use Rattle.net_record.specs.declared.part.Part.TheVariants.{Driver, Desk, Module}
 use Rattle.net_record.specs.declared.actor.ActorState.{ActorState}
 use Rattle.net_record.specs.Kinds.{module_step, store_in}
-use Rattle.net_record.specs.Actors.{no_actor, actor_at, new_part, new_actor, store_of, part_step, actor_after, journal_lengths, part_after_settle, actor_after_settle, actor_without_question}
+use Rattle.net_record.specs.Actors.{no_actor, actor_at, new_part, new_actor, store_of, part_step, actor_after, entry_counts, part_after_settle, actor_after_settle, actor_without_question}
 use Rattle.net_record.specs.Answers.{Giving, give, give_all, giving_of}
 use Rattle.net_record.specs.World.{WorldState, settle, greatest_clock}
 use Rattle.net_record.proofs.Found.{there}
@@ -109,13 +109,13 @@ gave_all g [] number = refl
 gave_all g (n ∷ numbers) number = gave_all (give g n) numbers number ∙ gave g n number
 
 -- a settle changes no store
-pub stores_settled : (moment : ℕ) (asked : List ℕ) (w : WorldState) (number : ℕ) → store_at (settle moment asked w).actors number ≡ store_at w.actors number
+pub stores_settled : (moment : ℕ) (asked : List ℕ) (shows : Bool) (w : WorldState) (number : ℕ) → store_at (settle moment asked shows w).actors number ≡ store_at w.actors number
 unfolding settle
-stores_settled moment asked w number =
+stores_settled moment asked shows w number =
     let g = giving_of w.actors asked in
-    each_settled (greatest_clock w.actors + 1) (journal_lengths g.actors) g.actors number ∙ gave_all (record { actors = w.actors; answers = [] }) asked number
+    each_settled (greatest_clock w.actors + 1) (entry_counts g.actors) g.actors number ∙ gave_all (record { actors = w.actors; answers = [] }) asked number
 
 -- and none of the turns
-pub turns_settled : (moment : ℕ) (asked : List ℕ) (w : WorldState) → (settle moment asked w).turns ≡ w.turns
+pub turns_settled : (moment : ℕ) (asked : List ℕ) (shows : Bool) (w : WorldState) → (settle moment asked shows w).turns ≡ w.turns
 unfolding settle
-turns_settled moment asked w = refl
+turns_settled moment asked shows w = refl

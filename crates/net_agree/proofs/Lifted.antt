@@ -35,7 +35,7 @@ use Rattle.net_record.specs.Roles.{roles}
 use Rattle.net_record.specs.Wires.{wires}
 use Rattle.net_record.specs.Phases.{phases}
 use Rattle.net_record.specs.Answers.{Giving, desks_asked, give, give_all, giving_of}
-use Rattle.net_record.specs.Actors.{new_actor, no_actor, actor_at, store_of, made_by, part_after_settle, actor_after_settle, journal_lengths, part_without_question, actor_without_question}
+use Rattle.net_record.specs.Actors.{new_actor, no_actor, actor_at, store_of, made_by, part_after_settle, actor_after_settle, entry_counts, part_without_question, actor_without_question}
 use Rattle.net_record.specs.World.{WorldState, start, waiting, turn, turn_of, turn_by, reader_of, issue, settle, driver_clock, greatest_clock}
 use Rattle.net_record.specs.Run.{begin}
 use Rattle.net_record.specs.Reached.{IsReached, starts, turns, settles}
@@ -135,11 +135,11 @@ all_given_answers : (g : Giving) (asked : List ℕ) → map shown (give_all g as
 all_given_answers g [] = refl
 all_given_answers g (number ∷ asked) = all_given_answers (give g number) asked ∙ all_give g number
 
-shown_after : (moment : ℕ) (asked : List ℕ) (w : WorldState) → map shown (settle moment asked w).actors ≡ map shown w.actors
+shown_after : (moment : ℕ) (asked : List ℕ) (shows : Bool) (w : WorldState) → map shown (settle moment asked shows w).actors ≡ map shown w.actors
 unfolding settle
-shown_after moment asked w =
+shown_after moment asked shows w =
     let giving = giving_of w.actors asked in
-    all_settled (greatest_clock w.actors + 1) (journal_lengths giving.actors) giving.actors ∙ all_given_answers (record { actors = w.actors; answers = [] }) asked
+    all_settled (greatest_clock w.actors + 1) (entry_counts giving.actors) giving.actors ∙ all_given_answers (record { actors = w.actors; answers = [] }) asked
 
 first_is : {X : Type 0} {x y : X} {xs ys : List X} → (x ∷ xs) ≡ (y ∷ ys) → x ≡ y
 first_is same = cc
@@ -167,14 +167,14 @@ store_kept v w number s same x =
     let found = shown_at v.actors w.actors number x.actor same x.there in
     record { actor = found.0; there = found.1; is = sym (ap (λ (e : Shown). e.store) found.2) ∙ x.is }
 
-settle_no_more : (moment : ℕ) (asked : List ℕ) (w : WorldState) → IsNoMore (settle moment asked w) w
+settle_no_more : (moment : ℕ) (asked : List ℕ) (shows : Bool) (w : WorldState) → IsNoMore (settle moment asked shows w) w
 unfolding settle
-settle_no_more moment asked w =
-    let same = shown_after moment asked w in
+settle_no_more moment asked shows w =
+    let same = shown_after moment asked shows w in
     record {
-      stores = λ number s x. store_kept (settle moment asked w) w number s same x;
+      stores = λ number s x. store_kept (settle moment asked shows w) w number s same x;
       traces = λ number s. refl;
-      way = λ link node msg h. subst (λ held. Contains (flat_map (messages_in link node) w.lanes ++ held) msg) (held_same link node (settle moment asked w).actors w.actors same) h;
+      way = λ link node msg h. subst (λ held. Contains (flat_map (messages_in link node) w.lanes ++ held) msg) (held_same link node (settle moment asked shows w).actors w.actors same) h;
     }
 
 -- ---- the start
@@ -317,8 +317,8 @@ runs_are_paired stays routed timed counted lab w later sound (turns v phase othe
     (counted lab (turn v t.lane t.at) (phase ∷ others) number s (turns v phase others t reached legal) x))
 runs_are_paired stays routed timed counted lab w later sound (settles v phase others reached drained) short =
     let asked = desks_asked phase.issues in
-    let same = ap (λ ts. length ts) (turns_begun (settle phase.moment asked v) others ∙ turns_settled phase.moment asked v) in
+    let same = ap (λ ts. length ts) (turns_begun (settle phase.moment asked phase.shows_routes v) others ∙ turns_settled phase.moment asked phase.shows_routes v) in
     let before : length v.turns < 2 ^ 31 = omega (arith, short, same) in
     let lifted = runs_are_paired stays routed timed counted lab v (phase ∷ others) sound reached before in
-    lifted_begun lab (settle phase.moment asked v) others stays (reached_none lab v (phase ∷ others) reached).1
-    (lifted_no_more lab (settle phase.moment asked v) v stays (settle_no_more phase.moment asked v) lifted)
+    lifted_begun lab (settle phase.moment asked phase.shows_routes v) others stays (reached_none lab v (phase ∷ others) reached).1
+    (lifted_no_more lab (settle phase.moment asked phase.shows_routes v) v stays (settle_no_more phase.moment asked phase.shows_routes v) lifted)

@@ -42,8 +42,6 @@ unfolding issues_of
 issues_none all (Tick to) = ticks_none all to
 issues_none all (Restart node) = restarts_none all node
 issues_none all (Settle rounds show) = tt
-issues_none all (Aggregate node prefix least) = tt
-issues_none all (Ask node prefix) = tt
 issues_none all _ = (refl, tt)
 
 abbrev pub PhasesBringNone : List Phase → Type 0

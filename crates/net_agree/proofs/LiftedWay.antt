@@ -37,7 +37,7 @@ use Rattle.net_record.specs.World.{WorldState, waiting, put, deliver, turn_of}
 use Rattle.net_agree.specs.Lifted.{message_if, messages_in, link_of, held_on, on_way}
 use Rattle.net_agree.proofs.LiftedLists.{set_gives, gives_at, gives_or, gives_both}
 use Rattle.net_agree.proofs.LiftedSends.{sent_own}
-use Rattle.net_agree.proofs.Advertisers.{told_no_message, link_monitor_sends, prefix_manager_sends}
+use Rattle.net_agree.proofs.Advertisers.{told_no_message, link_monitor_sends, prefix_manager_sends, decision_sends}
 use Rattle.net_agree.proofs.Sparks.{is_of_spark, Anybody, sent_by_spark}
 
 -- ---- the message of an item
@@ -153,7 +153,7 @@ part_holds (Module _) lane item at link node msg h = absurd (omega (arith, h.1))
 
 part_sends : (part : Part) (lane : ℕ) (item : Item) (at port link : ℕ) (node : List ℕ) (msg : Msg) → is_of_spark msg ≡ false → Contains (part_step part lane item at).1 (To port (Net link node msg))
     → IsSentBy part item link node msg ⊎ IsOfLink part item link node msg
-unfolding part_step module_step decision_step
+unfolding part_step module_step
 part_sends Driver lane item at port link node msg stores h = absurd (omega (arith, h.1))
 part_sends (Desk d) lane item at port link node msg stores h = absurd (omega (arith, h.1))
 part_sends (Module (Spark s)) lane item at port link node msg stores h = absurd (false≢true (sym stores ∙ sent_by_spark s item port link node msg h))
@@ -161,7 +161,8 @@ part_sends (Module (LinkMonitor s)) lane item at port link node msg stores h =
     absurd (told_no_message Anybody (link_monitor_step s item).1 port link node msg (link_monitor_sends Anybody s item (λ l peer peer_if brings. tt)) h)
 part_sends (Module (PrefixManager s)) lane item at port link node msg stores h =
     absurd (told_no_message Anybody (prefix_manager_step s item).1 port link node msg (prefix_manager_sends Anybody s item) h)
-part_sends (Module (Decision s)) lane item at port link node msg stores h = absurd (omega (arith, h.1))
+part_sends (Module (Decision s)) lane item at port link node msg stores h =
+    absurd (told_no_message Anybody (decision_step s item).1 port link node msg (decision_sends Anybody s item) h)
 part_sends (Module (Fib s)) lane item at port link node msg stores h = absurd (omega (arith, h.1))
 part_sends (Module (Store s)) lane item at port link node msg stores h =
     let own = sent_own s item port link node msg h in

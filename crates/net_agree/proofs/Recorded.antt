@@ -1,5 +1,5 @@
 -- The stores of a record agree at its settles: what a settle tells of them, behind the settles before, is what they were in its world.
-use Rattle.std.proofs.Common.{◌≡◌, ℕ, zero, suc, ◌+◌, ◌^◌, ◌<◌, ◌≤◌, List, [], ◌∷◌, ◌++◌, Option, Some, None, length, drop, get_or, take, refl, sym, ap, ◌∙◌, subst, arith, zero-add}
+use Rattle.std.proofs.Common.{◌≡◌, ℕ, zero, suc, ◌+◌, ◌^◌, ◌<◌, ◌≤◌, List, [], ◌∷◌, ◌++◌, Bool, Option, Some, None, length, drop, get_or, take, refl, sym, ap, ◌∙◌, subst, arith, zero-add}
 use Rattle.std.specs.Prelude.{slice_get, option_map, option_to_list, unwrap_or}
 use Rattle.std.proofs.lemmas.List.{length-take}
 use Rattle.std.proofs.lemmas.Option.{get_or_from_slice_get, slice_get-map}
@@ -17,18 +17,19 @@ use Rattle.net_record.specs.declared.phase.Phase.{Phase}
 use Rattle.net_record.specs.declared.record.NodeMark.{NodeMark}
 use Rattle.net_record.specs.declared.record.Record.{Record}
 use Rattle.net_record.specs.declared.record.SettleDone.{SettleDone}
-use Rattle.net_record.specs.Roles.{modules_of, store_number}
+use Rattle.net_record.specs.Roles.{modules_of, store_number, node_names}
 use Rattle.net_record.specs.Phases.{phases}
 use Rattle.net_record.specs.Actors.{actor_at, store_of}
 use Rattle.net_record.specs.Answers.{desks_asked}
-use Rattle.net_record.specs.Answered.{no_mark, node_names}
+use Rattle.net_record.specs.Marks.{no_mark}
 use Rattle.net_record.specs.Fronts.{fronts}
 use Rattle.net_record.specs.Records.{journals_of}
 use Rattle.net_record.specs.Reached.{IsReached}
 use Rattle.net_record.specs.Reached.IsReached.{starts, turns, settles}
 use Rattle.net_record.specs.Syncs.{syncs_told}
 use Rattle.net_record.specs.Tells.{IsToldAtSettle, RunsTell}
-use Rattle.net_record.specs.World.{WorldState, start, settle, marks_of}
+use Rattle.net_record.specs.World.{WorldState, start, settle, nodes_told}
+use Rattle.net_record.proofs.Shown.{syncs_shown}
 use Rattle.net_record.proofs.SyncsTold.{AreTold, told_start, told_begin, told_turn, told_settle, syncs_more}
 use Rattle.net_record.proofs.Tellers.{tellers_by, tellers_of, teller_in, teller_at, syncs_of_mark}
 use Rattle.net_agree.specs.Lifted.{taken_by}
@@ -44,17 +45,17 @@ told_reached : (lab : Laboratory) {w : WorldState} {later : List Phase} → IsRe
 told_reached lab starts = told_begin (start lab) (phases lab) (told_start lab)
 told_reached lab (turns w phase later t before legal) = told_turn w t.lane t.at (told_reached lab before)
 told_reached lab (settles w phase later before drained) =
-    told_begin (settle phase.moment (desks_asked phase.issues) w) later (told_settle phase.moment (desks_asked phase.issues) w (told_reached lab before))
+    told_begin (settle phase.moment (desks_asked phase.issues) phase.shows_routes w) later (told_settle phase.moment (desks_asked phase.issues) phase.shows_routes w (told_reached lab before))
 
 -- behind one settle more all that a store finished is told
-all_told : (w : WorldState) (s : SettleDone) (place : ℕ) → s.nodes ≡ marks_of w.actors → AreTold w
+all_told : (w : WorldState) (shows : Bool) (s : SettleDone) (place : ℕ) → s.nodes ≡ nodes_told w.actors shows → AreTold w
     → syncs_told place (w.settles ++ s ∷ []) ≡ (teller_at w.actors place).store.done
-all_told w s place e h =
+all_told w shows s place e h =
     let t = teller_at w.actors place in
     let syncs = syncs_told place w.settles in
     let told = h place in
     let more : (get_or s.nodes place no_mark).syncs ≡ told.left =
-    ap (λ nodes. (get_or nodes place no_mark).syncs) e ∙ syncs_of_mark w.actors place ∙ ap (λ n. drop n t.store.done) told.count
+    ap (λ nodes. (get_or nodes place no_mark).syncs) e ∙ syncs_shown w.actors shows place ∙ syncs_of_mark w.actors place ∙ ap (λ n. drop n t.store.done) told.count
     ∙ ap (drop (length syncs)) told.all ∙ drop-append_seam syncs told.left in
     syncs_more place w.settles s ∙ ap (λ left. syncs ++ left) more ∙ sym told.all
 
@@ -74,7 +75,7 @@ journal_in [] (suc place) = refl
 journal_in (actor ∷ actors) place = journal_head actor.told (store_of actor.part) actors (journal_in actors) place
 
 -- the front in a place is that of the journal there, also where there is none
-front_in : (marks : List NodeMark) (journals : List (List JournalEntry)) (place : ℕ)
+pub front_in : (marks : List NodeMark) (journals : List (List JournalEntry)) (place : ℕ)
     → get_or (fronts marks journals) place [] ≡ take (get_or marks place no_mark).entries (get_or journals place [])
 front_in [] journals zero = refl
 front_in [] journals (suc place) = refl
@@ -120,7 +121,7 @@ module _ (lab : Laboratory) (done : Record) (before : List SettleDone) (s : Sett
       ∙ ap (λ (t : StoreState). t.journal) is in
       let syncs : syncs_told place (before ++ s ∷ []) ≡ (store_in_place lab.kind actors number).done =
       ap (λ (ss : List SettleDone). syncs_told place (ss ++ s ∷ [])) (sym h.settles)
-      ∙ all_told w s place (ap (λ (d : SettleDone). d.nodes) h.tells) (told_reached lab h.reached) ∙ ap (λ (t : StoreState). t.done) is in
+      ∙ all_told w h.phase.shows_routes s place (ap (λ (d : SettleDone). d.nodes) h.tells) (told_reached lab h.reached) ∙ ap (λ (t : StoreState). t.done) is in
       rw (name_in lab place node there, journal, syncs, ← h.turns, ← r.lanes)
       (ap
       (λ (k : Kind).

@@ -1,5 +1,5 @@
 -- Every world of every run is routed.
-use Rattle.std.proofs.Common.{◌≡◌, ℕ, zero, suc, ◌+◌, ◌<◌, ◌≤◌, inl, inr, List, [], ◌∷◌, Option, Some, None, true, length, get_or, set, replicate, refl, sym, ap, ◌∙◌, subst, arith, length-set, get_or-set_same, get_or-set_other}
+use Rattle.std.proofs.Common.{◌≡◌, ℕ, zero, suc, ◌+◌, ◌<◌, ◌≤◌, inl, inr, List, [], ◌∷◌, Option, Some, None, true, length, get_or, set, replicate, refl, sym, ap, ◌∙◌, subst, arith, length-set, get_or-set_same, get_or-set_other, Bool}
 use Rattle.std.specs.Prelude.{slice_get}
 use Rattle.std.specs.List.{Contains}
 use Rattle.std.proofs.lemmas.Bool.{cases_eq, cases_lt}
@@ -26,7 +26,7 @@ use Rattle.net_record.specs.declared.wire.Wire.{Wire}
 use Rattle.net_record.specs.Roles.{roles}
 use Rattle.net_record.specs.Wires.{has_items_for, port_of, wires}
 use Rattle.net_record.specs.Phases.{phases}
-use Rattle.net_record.specs.Actors.{made_by, actor_after, outputs_of, journal_lengths}
+use Rattle.net_record.specs.Actors.{made_by, actor_after, outputs_of, entry_counts}
 use Rattle.net_record.specs.Answers.{giving_of, desks_asked}
 use Rattle.net_record.specs.World.{WorldState, world_of, start, deliver, waiting, reader_of, turn_of, turn_by, turn, issue, driver_clock, settle, greatest_clock}
 use Rattle.net_record.specs.Run.{begin}
@@ -194,12 +194,12 @@ begin_routed : (all : List Role) (w : WorldState) (later : List Phase) → ArePh
 begin_routed all w [] quiet r = r
 begin_routed all w (phase ∷ later) quiet r = issue_routed all w phase.issues quiet.0 r
 
-settle_routed : (all : List Role) (w : WorldState) (moment : ℕ) (asked : List ℕ) → IsRouted all w → IsRouted all (settle moment asked w)
+settle_routed : (all : List Role) (w : WorldState) (moment : ℕ) (asked : List ℕ) (shows : Bool) → IsRouted all w → IsRouted all (settle moment asked shows w)
 unfolding settle
-settle_routed all w moment asked r =
+settle_routed all w moment asked shows r =
     let given = giving_of w.actors asked in
-    routed_of all (settle moment asked w) r.lanes r.as_many
-    (mapped_fit all given.actors (greatest_clock w.actors + 1) (journal_lengths given.actors) (all_given_fit all (record { actors = w.actors; answers = [] }) asked (fit_in all w r)))
+    routed_of all (settle moment asked shows w) r.lanes r.as_many
+    (mapped_fit all given.actors (greatest_clock w.actors + 1) (entry_counts given.actors) (all_given_fit all (record { actors = w.actors; answers = [] }) asked (fit_in all w r)))
     r.items
 
 -- ---- the law
@@ -217,7 +217,7 @@ reached lab (turns w phase later t before legal) =
 reached lab (settles w phase later before drained) =
     let h = reached lab before in
     record {
-      routed = begin_routed (roles lab) (settle phase.moment (desks_asked phase.issues) w) later h.quiet.1 (settle_routed (roles lab) w phase.moment (desks_asked phase.issues) h.routed);
+      routed = begin_routed (roles lab) (settle phase.moment (desks_asked phase.issues) phase.shows_routes w) later h.quiet.1 (settle_routed (roles lab) w phase.moment (desks_asked phase.issues) phase.shows_routes h.routed);
       quiet = h.quiet.1;
     }
 

@@ -5,14 +5,17 @@ use Rattle.std.specs.List.{Contains, AllByRecursion}
 use Rattle.std.proofs.lemmas.List.{length-map}
 use Rattle.std.proofs.lemmas.Option.{none-some, same_Some, slice_get-map, slice_get-get_or, slice_get_within}
 use Rattle.or_base.specs.declared.item.Item.{Item}
+use Rattle.or_base.specs.declared.item.Item.TheVariants.{Entry}
 use Rattle.or_base.specs.declared.kind.Kind.{Kind}
 use Rattle.or_base.proofs.Members.{Contains-first, Contains-later}
+use Rattle.or_base.specs.declared.asked.Asked.{Asked}
+use Rattle.or_base.specs.declared.asked.Asked.TheVariants.{Key, Prefix}
 use Rattle.kv_store.specs.Store.{StoreState, store_step, new_store}
 use Rattle.or_actor.specs.declared.link_end.LinkEnd.{LinkEnd}
 use Rattle.spark_node.specs.Spark.{SparkState, new_spark, down_link, spark_step}
 use Rattle.link_monitor.specs.LinkMonitor.{link_monitor_step}
 use Rattle.prefix_manager.specs.PrefixManager.{prefix_manager_step}
-use Rattle.decision_core.specs.Decision.{decision_step}
+use Rattle.decision_core.specs.Decision.{DecisionState, decision_step}
 use Rattle.net_link.specs.Link.{link_step}
 use Rattle.net_link.proofs.Flow.{links_make_nothing_up}
 use Rattle.net_record.specs.declared.role.NodeModule.TheVariants.{Spark as SparkRole, LinkMonitor as LinkMonitorRole, PrefixManager as PrefixManagerRole, Store as StoreRole, Decision as DecisionRole, Fib as FibRole, Desk as DeskRole}
@@ -23,10 +26,9 @@ use Rattle.net_record.specs.declared.part.Part.{Part}
 use Rattle.net_record.specs.declared.part.Part.TheVariants.{Driver, Desk, Module}
 use Rattle.net_record.specs.declared.actor.ActorState.{ActorState}
 use Rattle.net_record.specs.Kinds.{module_step}
-use Rattle.net_record.specs.Desk.{DeskState, key_asked, with_question, desk_after}
+use Rattle.net_record.specs.Desk.{DeskState, asked_in, with_question, desk_after}
 use Rattle.net_record.specs.Actors.{new_part, new_actor, no_actor, actor_at, store_of, part_step, part_after_settle, actor_after_settle, part_without_question, actor_without_question}
 use Rattle.net_record.specs.Answers.{Giving, give, give_all}
-use Rattle.net_record.proofs.Standing.{node_and_store, node_and_store-question}
 use Rattle.net_agree.specs.Routed.{IsOf, AreEnds, MayWaitFor, KnowsPeers, HearsPeer, HearsPeers}
 use Rattle.net_agree.proofs.RoutedStores.{Knows, turn_knows, turn_me}
 use Rattle.net_agree.proofs.Sparks.{spark_hears}
@@ -73,23 +75,32 @@ knows_to all me s same k =
     let own = subst (λ name. Knows (λ link peer. AreEnds all link peer name) s) (sym same) k in
     record { peers = own.peers; running = own.running; done = own.done }
 
-fit_desk : (d e : DeskState) (role : Role) → node_and_store e ≡ node_and_store d → IsOf (Desk d) role → IsOf (Desk e) role
-fit_desk d e role same is =
-    (is.0, is.1 ∙ ap (λ (p : List ℕ × ℕ). Node DeskRole p.0 is.0) (sym same), is.2 ∙ ap (λ (p : List ℕ × ℕ). p.1) (sym same))
+fit_desk : (d : DeskState) (asked : Option Asked) (at : ℕ) (role : Role) → IsOf (Desk d) role → IsOf (Desk (with_question d asked at)) role
+fit_desk d None at role is = is
+fit_desk d (Some (Key key)) at role is = is
+fit_desk d (Some (Prefix prefix)) at role is = is
+
+-- a Decision stays that of its node
+decision_me : (s : DecisionState) (item : Item) → (decision_step s item).0.me ≡ s.me
+unfolding decision_step
+decision_me s (Entry entry) = refl
+decision_me s _ = refl
 
 -- an actor stays fit in its turn
 pub turn_fit : (all : List Role) (part : Part) (role : Role) (lane : ℕ) (item : Item) (at : ℕ) → IsFit all part role → MayWaitFor all role item → IsFit all (part_step part lane item at).0 role
 unfolding part_step module_step desk_after spark_step link_monitor_step prefix_manager_step decision_step
 turn_fit all Driver role lane item at f may = f
 turn_fit all (Desk d) role lane item at f may =
-    fit_other all (Desk (with_question d (key_asked item) at)) role (fit_desk d (with_question d (key_asked item) at) role (node_and_store-question d (key_asked item) at) f.is) refl
+    fit_other all (Desk (with_question d (asked_in item) at)) role (fit_desk d (asked_in item) at role f.is) refl
     (λ t wrong. cc)
 turn_fit all (Module (Spark s)) role lane item at f may =
     fit_spark all (spark_step s item).0 role f.is
     (spark_hears (λ link peer. AreEnds all link peer s.me) s item (λ link from msg brings. may.heard s.me f.is.0 f.is.1 link from msg brings) (f.hears s refl))
 turn_fit all (Module (LinkMonitor s)) role lane item at f may = fit_other all (Module (LinkMonitor (link_monitor_step s item).0)) role f.is refl (λ t wrong. cc)
 turn_fit all (Module (PrefixManager s)) role lane item at f may = fit_other all (Module (PrefixManager (prefix_manager_step s item).0)) role f.is refl (λ t wrong. cc)
-turn_fit all (Module (Decision s)) role lane item at f may = fit_other all (Module (Decision (decision_step s item).0)) role f.is refl (λ t wrong. cc)
+turn_fit all (Module (Decision s)) role lane item at f may =
+    let named = f.is.1 ∙ ap (λ name. Node DecisionRole name f.is.0) (sym (decision_me s item)) in
+    fit_other all (Module (Decision (decision_step s item).0)) role (f.is.0, named) refl (λ t wrong. cc)
 turn_fit all (Module (Fib s)) role lane item at f may = f
 turn_fit all (Module (Store s)) role lane item at f may =
     let after = (store_step s item).0 in
@@ -118,7 +129,7 @@ new_fit kind all (Node StoreRole node setup) =
     fit_store all (new_store kind node) (Node StoreRole node setup) (setup, refl) (record { peers = tt; running = tt; done = tt })
 new_fit kind all (Node DecisionRole node setup) = fit_other all (new_part kind (Node DecisionRole node setup)) (Node DecisionRole node setup) (setup, refl) refl (λ t wrong. cc)
 new_fit kind all (Node FibRole node setup) = fit_other all (new_part kind (Node FibRole node setup)) (Node FibRole node setup) (setup, refl) refl (λ t wrong. cc)
-new_fit kind all (Node DeskRole node setup) = fit_other all (new_part kind (Node DeskRole node setup)) (Node DeskRole node setup) (setup, refl, refl) refl (λ t wrong. cc)
+new_fit kind all (Node DeskRole node setup) = fit_other all (new_part kind (Node DeskRole node setup)) (Node DeskRole node setup) (setup, refl, refl, refl) refl (λ t wrong. cc)
 new_fit kind all (LinkRole link a b) = fit_other all (new_part kind (LinkRole link a b)) (LinkRole link a b) refl refl (λ t wrong. cc)
 
 settled_fit : (all : List Role) (part : Part) (role : Role) (lengths : List ℕ) → IsFit all part role → IsFit all (part_after_settle lengths part) role

@@ -59,8 +59,6 @@ unfolding issues_of
 quiet_issues all (Tick to) = quiet_ticks to (enumerate_from 0 all)
 quiet_issues all (Restart node) = quiet_restarts node (enumerate_from 0 all)
 quiet_issues all (Settle rounds show) = tt
-quiet_issues all (Aggregate node prefix least) = tt
-quiet_issues all (Ask node prefix) = tt
 quiet_issues all _ = (tt, tt)
 
 abbrev pub ArePhasesQuiet : List Phase → Type 0

@@ -34,7 +34,7 @@ use Rattle.net_record.specs.Kinds.{module_step}
 use Rattle.net_record.specs.Wires.{has_items_for, has_items_within, meets_links, is_link_end, port_of_module, port_of}
 use Rattle.net_record.specs.Actors.{part_step}
 use Rattle.net_agree.specs.Routed.{IsOf, AreEnds, MayWaitFor, HearsPeers}
-use Rattle.net_agree.proofs.Advertisers.{IsToldItem, IsTold, link_monitor_sends, prefix_manager_sends}
+use Rattle.net_agree.proofs.Advertisers.{IsToldItem, IsTold, link_monitor_sends, prefix_manager_sends, decision_sends}
 use Rattle.net_agree.proofs.RoutedStores.{IsOwnItem, IsOwn, turn_sends}
 use Rattle.net_agree.proofs.Sparks.{IsSparkItem, IsOfSpark, spark_sends}
 
@@ -230,7 +230,7 @@ of_node m me from to reader port is joined named =
 pub part_sends : (all : List Role) (part : Part) (from to : Role) (reader lane : ℕ) (taken : Item) (at port : ℕ) (item : Item) → IsOf part from → Contains all from
     → ((s : SparkState) → part ≡ Module (Spark s) → HearsPeers all s) → MayWaitFor all from taken
     → has_items_for from to ≡ true → port ≡ port_of from to reader → Contains (part_step part lane taken at).1 (To port item) → MayWaitFor all to item
-unfolding part_step module_step decision_step
+unfolding part_step module_step
 part_sends all Driver from to reader lane taken at port item is among hears may joined named sent = absurd (omega (arith, sent.1))
 part_sends all (Desk d) from to reader lane taken at port item is among hears may joined named sent = absurd (omega (arith, sent.1))
 part_sends all (Module (Spark s)) from to reader lane taken at port item is among hears may joined named sent =
@@ -251,7 +251,10 @@ part_sends all (Module (PrefixManager s)) from to reader lane taken at port item
 part_sends all (Module (Store s)) from to reader lane taken at port item is among hears may joined named sent =
     node_sends all s.me to port item (of_node StoreRole s.me from to reader port is joined named)
     (leaves_store all s.me port item (one_of (IsOwn s.me) (store_step s taken).1 (To port item) (turn_sends s taken) sent))
-part_sends all (Module (Decision s)) from to reader lane taken at port item is among hears may joined named sent = absurd (omega (arith, sent.1))
+part_sends all (Module (Decision s)) from to reader lane taken at port item is among hears may joined named sent =
+    let J : ℕ → List ℕ → Type 0 = λ link peer. AreEnds all link peer s.me in
+    node_sends all s.me to port item (of_node DecisionRole s.me from to reader port is joined named)
+    (leaves_told all s.me port item (one_of (IsTold J) (decision_step s taken).1 (To port item) (decision_sends J s taken) sent))
 part_sends all (Module (Fib s)) from to reader lane taken at port item is among hears may joined named sent = absurd (omega (arith, sent.1))
 part_sends all (Module (Link s)) from to reader lane taken at port item is among hears may joined named sent =
     let reaches : LinkReaches s (port_of from to reader) to =

@@ -46,7 +46,7 @@ timed_reached lab w later sound (turns v phase others t reached legal) =
 timed_reached lab w later sound (settles v phase others reached drained) =
     let before = timed_reached lab v (phase ∷ others) sound reached in
     let asked = desks_asked phase.issues in
-    begins (roles lab) before.moment (settle phase.moment asked v) others (timed_settle (roles lab) before.moment phase.moment asked v before.keeps) before.now.1
+    begins (roles lab) before.moment (settle phase.moment asked phase.shows_routes v) others (timed_settle (roles lab) before.moment phase.moment asked phase.shows_routes v before.keeps) before.now.1
 
 -- ---- what is said of it
 

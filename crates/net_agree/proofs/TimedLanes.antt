@@ -238,8 +238,8 @@ timed_issue all from until w issues h sent = record {
   stores = λ number. omega (arith, h.stores number, sent_rises from until issues sent);
 }
 
-moment_settled : (moment : ℕ) (asked : List ℕ) (w : WorldState) (number : ℕ) → moment_at (settle moment asked w).actors number ≡ moment_at w.actors number
-moment_settled moment asked w number = ap (λ o. option_map_or (λ (s : StoreState). s.moment) o 0) (stores_settled moment asked w number)
+moment_settled : (moment : ℕ) (asked : List ℕ) (shows : Bool) (w : WorldState) (number : ℕ) → moment_at (settle moment asked shows w).actors number ≡ moment_at w.actors number
+moment_settled moment asked shows w number = ap (λ o. option_map_or (λ (s : StoreState). s.moment) o 0) (stores_settled moment asked shows w number)
 
 settled_as : (all : List Role) (until : ℕ) (w v : WorldState) → v.wires ≡ w.wires → v.lanes ≡ w.lanes → ((number : ℕ) → moment_at v.actors number ≡ moment_at w.actors number)
     → KeepsTime all until w → KeepsTime all until v
@@ -250,14 +250,14 @@ settled_as all until w v same items moments h = record {
   stores = λ number. omega (arith, moments number, h.stores number);
 }
 
-settled_wires : (moment : ℕ) (asked : List ℕ) (w : WorldState) → ((settle moment asked w).wires ≡ w.wires) × ((settle moment asked w).lanes ≡ w.lanes)
+settled_wires : (moment : ℕ) (asked : List ℕ) (shows : Bool) (w : WorldState) → ((settle moment asked shows w).wires ≡ w.wires) × ((settle moment asked shows w).lanes ≡ w.lanes)
 unfolding settle
-settled_wires moment asked w = (refl, refl)
+settled_wires moment asked shows w = (refl, refl)
 
-pub timed_settle : (all : List Role) (until moment : ℕ) (asked : List ℕ) (w : WorldState) → KeepsTime all until w → KeepsTime all until (settle moment asked w)
-timed_settle all until moment asked w h =
-    let same = settled_wires moment asked w in
-    settled_as all until w (settle moment asked w) same.0 same.1 (moment_settled moment asked w) h
+pub timed_settle : (all : List Role) (until moment : ℕ) (asked : List ℕ) (shows : Bool) (w : WorldState) → KeepsTime all until w → KeepsTime all until (settle moment asked shows w)
+timed_settle all until moment asked shows w h =
+    let same = settled_wires moment asked shows w in
+    settled_as all until w (settle moment asked shows w) same.0 same.1 (moment_settled moment asked shows w) h
 
 same_at : (count lane : ℕ) (items : List Stamped) → get_or (replicate count items) lane items ≡ items
 same_at zero zero items = refl

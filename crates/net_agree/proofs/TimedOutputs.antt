@@ -36,7 +36,7 @@ use Rattle.net_record.specs.declared.part.Part.{Part}
 use Rattle.net_record.specs.declared.part.Part.TheVariants.{Driver, Desk, Module}
 use Rattle.net_record.specs.Kinds.{module_step}
 use Rattle.net_record.specs.Actors.{part_step}
-use Rattle.net_agree.proofs.Advertisers.{IsToldItem, IsTold, link_monitor_sends, prefix_manager_sends}
+use Rattle.net_agree.proofs.Advertisers.{IsToldItem, IsTold, link_monitor_sends, prefix_manager_sends, decision_sends}
 use Rattle.net_agree.proofs.Sparks.{IsSparkItem, IsOfSpark, Anybody, spark_sends_own}
 use Rattle.net_agree.proofs.TimedTicks.{moment_past, tick_of, SendNoTicks, none_sent_then}
 
@@ -162,12 +162,12 @@ none_told (To port item ∷ outputs) told = (no_tick_told item told.0, none_told
 -- ---- an actor sends none
 
 module_sends_none : (m : AnyModule) (lane : ℕ) (item : Item) → SendNoTicks (module_step m lane item).1
-unfolding module_step decision_step
+unfolding module_step
 module_sends_none (Spark s) lane item = none_of_spark (spark_step s item).1 (spark_sends_own s item)
 module_sends_none (LinkMonitor s) lane item = none_told (link_monitor_step s item).1 (link_monitor_sends Anybody s item (λ link peer peer_if brings. tt))
 module_sends_none (PrefixManager s) lane item = none_told (prefix_manager_step s item).1 (prefix_manager_sends Anybody s item)
 module_sends_none (Store s) lane item = store_sends_none s item
-module_sends_none (Decision s) lane item = tt
+module_sends_none (Decision s) lane item = none_told (decision_step s item).1 (decision_sends Anybody s item)
 module_sends_none (Fib s) lane item = tt
 module_sends_none (Link s) lane item = link_sends_none s item
 

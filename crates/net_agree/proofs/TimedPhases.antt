@@ -59,8 +59,6 @@ unfolding issues_of
 issues_send_none all (Tick to) e = absurd (cc e)
 issues_send_none all (Restart node) e = restarts_send_none node (enumerate_from 0 all)
 issues_send_none all (Settle rounds show) e = tt
-issues_send_none all (Aggregate node prefix least) e = tt
-issues_send_none all (Ask node prefix) e = tt
 issues_send_none all _ e = (refl, tt)
 
 issues_rise : (all : List Role) (moment : ℕ) (c : Command) → IsTickFrom moment c → AreSentBetween moment (moment_after moment c) (issues_of all c)

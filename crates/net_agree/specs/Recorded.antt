@@ -9,7 +9,8 @@ use Rattle.net_record.specs.declared.record.SettleDone.{SettleDone}
 use Rattle.net_record.specs.declared.record.Record.{Record}
 use Rattle.net_record.specs.Roles.{roles, modules_of, store_number}
 use Rattle.net_record.specs.Wires.{wires}
-use Rattle.net_record.specs.Answered.{no_mark, node_names}
+use Rattle.net_record.specs.Marks.{no_mark}
+use Rattle.net_record.specs.Roles.{node_names}
 use Rattle.net_record.specs.Syncs.{syncs_told}
 use Rattle.net_record.specs.Reached.{IsOfARun}
 use Rattle.net_agree.specs.Lifted.{items_taken}

@@ -34,7 +34,7 @@ use Rattle.net_record.specs.Reached.{IsReached}
 -- the actor with this role is this
 abbrev pub IsOf : Part → Role → Type 0
 IsOf Driver role = role ≡ DriverRole
-IsOf (Desk d) role = (setup : NodeSetup) × (role ≡ Node DeskRole d.node setup) × (setup.store ≡ d.store)
+IsOf (Desk d) role = (setup : NodeSetup) × (role ≡ Node DeskRole d.node setup) × (setup.store ≡ d.store.owner) × (setup.decision ≡ d.decision.owner)
 IsOf (Module (Spark s)) role = (setup : NodeSetup) × (role ≡ Node SparkRole s.me setup)
 IsOf (Module (LinkMonitor s)) role = (setup : NodeSetup) × (role ≡ Node LinkMonitorRole s.me setup)
 IsOf (Module (PrefixManager s)) role = (setup : NodeSetup) × (role ≡ Node PrefixManagerRole s.me setup)

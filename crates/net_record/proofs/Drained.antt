@@ -51,13 +51,13 @@ pub settles-issue : (w : WorldState) (issues : List Output) → (issue w issues)
 unfolding issue
 settles-issue w issues = refl
 
-pub settles-settle : (moment : ℕ) (asked : List ℕ) (w : WorldState) → length (settle moment asked w).settles ≡ length w.settles + 1
+pub settles-settle : (moment : ℕ) (asked : List ℕ) (shows : Bool) (w : WorldState) → length (settle moment asked shows w).settles ≡ length w.settles + 1
 unfolding settle
-settles-settle moment asked w = length_push w.settles (settle_done moment (length w.turns) w.actors (giving_of w.actors asked).answers)
+settles-settle moment asked shows w = length_push w.settles (settle_done moment (length w.turns) w.actors shows (giving_of w.actors asked).answers)
 
-pub drained-settle : (moment : ℕ) (asked : List ℕ) (w : WorldState) → is_drained (settle moment asked w) ≡ is_drained w
+pub drained-settle : (moment : ℕ) (asked : List ℕ) (shows : Bool) (w : WorldState) → is_drained (settle moment asked shows w) ≡ is_drained w
 unfolding settle
-drained-settle moment asked w = refl
+drained-settle moment asked shows w = refl
 
 -- a phase that settles leaves the world drained, with one settle more
 abbrev Ends : List Phase → Type 0
@@ -71,8 +71,8 @@ ends_phase : (phases : List Phase) → Ends phases → (number : ℕ) (before : 
     × (length (goes_on unsettled over number done (settle_after phase done) phases).last.world.settles ≡ before + suc (length phases))
 ends_phase phases others number before phase done false false e same settles =
     let drained = drained-or (is_over done.world) (is_drained done.world) e in
-    let end = others (number + 1) (settle_after phase done) (drained-settle phase.moment (desks_asked phase.issues) done.world ∙ drained) settles in
-    (end.0, omega (arith, end.1, settles-settle phase.moment (desks_asked phase.issues) done.world, same))
+    let end = others (number + 1) (settle_after phase done) (drained-settle phase.moment (desks_asked phase.issues) phase.shows_routes done.world ∙ drained) settles in
+    (end.0, omega (arith, end.1, settles-settle phase.moment (desks_asked phase.issues) phase.shows_routes done.world, same))
 ends_phase phases others number before phase done false true e same settles = cc settles
 ends_phase phases others number before phase done true over e same settles = cc settles
 

@@ -1,7 +1,9 @@
 -- Small cases that the definitions compute: the lanes of two linked stores, and what desks tell.
-use Rattle.std.proofs.Common.{◌≡◌, ℕ, Some, None, [], ◌∷◌, List, refl}
+use Rattle.std.proofs.Common.{◌≡◌, ℕ, Some, None, [], ◌∷◌, List, false, refl}
 use Rattle.std.specs.Prelude.{codes}
-use Rattle.or_base.specs.declared.asked.Asked.TheVariants.{Key}
+use Rattle.or_base.specs.declared.asked.Asked.{Asked}
+use Rattle.or_base.specs.declared.asked.Asked.TheVariants.{Key, Prefix as PrefixAsked}
+use Rattle.or_base.specs.declared.prefix.Prefix.{Prefix as PrefixType}
 use Rattle.or_base.specs.declared.asked.Told.{Told}
 use Rattle.or_base.specs.declared.asked.Told.TheVariants.{Value, Nothing, Behind}
 use Rattle.or_base.specs.declared.entry.JournalEntry.{JournalEntry}
@@ -19,8 +21,8 @@ use Rattle.net_record.specs.declared.actor.ActorState.{ActorState}
 use Rattle.net_record.specs.declared.record.AnswerDone.{AnswerDone}
 use Rattle.net_record.specs.Roles.{roles}
 use Rattle.net_record.specs.Wires.{wires}
-use Rattle.net_record.specs.Desk.{DeskState, told_to, question_answer, with_question}
-use Rattle.net_record.specs.Actors.{no_actor, made_at, range_asked, answer_of}
+use Rattle.net_record.specs.Desk.{DeskState, with_question}
+use Rattle.net_record.specs.Actors.{no_actor, made_at, range_in, told_to, question_answer, answer_of}
 use Rattle.net_record.specs.Answers.{give, giving_of}
 
 -- ---- lanes. The actors are 0 the driver, 1 and 2 the store and the desk of a, 3 and 4 those of b, and 5 the link.
@@ -56,32 +58,50 @@ journal =
 abbrev store : ActorState
 store = record { part = Module (Store (record (new_store Stores (codes "a")) { journal = journal })); clock = 9; told = 0; made = 5 ∷ 5 ∷ 9 ∷ [] }
 
+abbrev prefix : PrefixType
+prefix = record { v6 = false; bits = 0; len = 0; sound = refl }
+
+abbrev asked : Asked
+asked = Key (codes "x")
+
 abbrev question : ℕ → ℕ → Question
-question at seen = record { key = codes "x"; at = at; seen = seen }
+question at seen = record { asked = asked; at = at; seen = seen }
+
+-- the first of these actors is the store of a, which the desk knows by its number, wherever it stands
+abbrev desk : DeskState
+desk = record { node = codes "a"; seen = 1; store = record { owner = 0; last = 2 }; decision = record { owner = 1; last = 0 }; questions = [] }
+
+abbrev told : ℕ → ℕ → Told
+told at seen = told_to (store ∷ no_actor ∷ []) desk (question at seen)
 
 -- no entries, one, two and all
-pub told-none : told_to journal (question 0 0) ≡ Nothing
+pub told-none : told 0 0 ≡ Nothing
 unfolding told_to
 told-none = refl
 
-pub told-one : told_to journal (question 1 0) ≡ Value (value_of 1)
+pub told-one : told 1 0 ≡ Value (value_of 1)
 unfolding told_to
 told-one = refl
 
-pub told-two : told_to journal (question 2 0) ≡ Nothing
+pub told-two : told 2 0 ≡ Nothing
 unfolding told_to
 told-two = refl
 
 -- as many entries as were seen are not behind, and one fewer is
-pub told-all : told_to journal (question 3 3) ≡ Value (value_of 2)
+pub told-all : told 3 3 ≡ Value (value_of 2)
 unfolding told_to
 told-all = refl
 
-pub told-behind : told_to journal (question 2 3) ≡ Behind 2
+pub told-behind : told 2 3 ≡ Behind 2
 unfolding told_to
 told-behind = refl
 
--- the stamps of the turns that made these lengths
+-- an actor that is no Decision has no route
+pub told-no_route : told_to (store ∷ no_actor ∷ []) desk (record { asked = PrefixAsked prefix; at = 0; seen = 0 }) ≡ Nothing
+unfolding told_to
+told-no_route = refl
+
+-- the stamps of the turns that made so many entries
 pub made-none : made_at store.made 0 ≡ 0
 made-none = refl
 
@@ -91,29 +111,30 @@ made-two = refl
 pub made-all : made_at store.made 3 ≡ 9
 made-all = refl
 
--- ---- desks. The first of these actors is the store of a, which the desk knows by its number, wherever it stands.
-
-abbrev desk : DeskState
-desk = record { node = codes "a"; store = 0; seen = 1; last = 2; questions = [] }
-
--- a desk that found two entries last may find two or three
-pub range-desk : range_asked (store ∷ no_actor ∷ []) (Some desk) (Some (codes "x")) ≡ record { least = 2; most = 3 }
+-- a desk that found two entries of the store last may find two or three
+pub range-desk : range_in (store ∷ no_actor ∷ []) desk.store ≡ record { least = 2; most = 3 }
 range-desk = refl
 
 -- with three it has seen them, and keeps what it had seen before
-pub asked-desk : with_question desk (Some (codes "x")) 3 ≡ record { node = codes "a"; store = 0; seen = 3; last = 3; questions = question 3 1 ∷ [] }
+pub asked-desk : with_question desk (Some asked) 3
+    ≡ record { node = codes "a"; seen = 3; store = record { owner = 0; last = 3 }; decision = record { owner = 1; last = 0 }; questions = question 3 1 ∷ [] }
 asked-desk = refl
 
 -- ---- answers stand in the order of the questions: here of b, of a and of b again, each of which finds all three entries
 
 abbrev desk_with : List ℕ → ℕ → List Question → ActorState
-desk_with node store questions = record { part = Desk (record { node = node; store = store; seen = 0; last = 0; questions = questions }); clock = 0; told = 0; made = [] }
+desk_with node owner questions = record {
+  part = Desk (record { node = node; seen = 0; store = record { owner = owner; last = 0 }; decision = record { owner = 0; last = 0 }; questions = questions });
+  clock = 0;
+  told = 0;
+  made = [];
+}
 
 abbrev asked_actors : List ActorState
 asked_actors = no_actor ∷ desk_with (codes "a") 3 (question 0 0 ∷ []) ∷ desk_with (codes "b") 3 (question 3 0 ∷ question 1 3 ∷ []) ∷ store ∷ []
 
 abbrev answer : List ℕ → Told → AnswerDone
-answer node told = record { node = node; asked = Key (codes "x"); told = told }
+answer node told = record { node = node; asked = asked; told = told }
 
 pub give-order : (giving_of asked_actors (2 ∷ 1 ∷ 2 ∷ [])).answers
     ≡ answer (codes "b") (Value (value_of 2)) ∷ answer (codes "a") Nothing ∷ answer (codes "b") (Behind 1) ∷ []

@@ -54,14 +54,14 @@ pub few_issue : (w : WorldState) (issues : List Output) → HasFewTurns w → Ha
 unfolding issue
 few_issue w issues h = h
 
-pub few_settle : (moment : ℕ) (asked : List ℕ) (w : WorldState) → HasFewTurns w → HasFewTurns (settle moment asked w)
+pub few_settle : (moment : ℕ) (asked : List ℕ) (shows : Bool) (w : WorldState) → HasFewTurns w → HasFewTurns (settle moment asked shows w)
 unfolding settle
-few_settle moment asked w h = h
+few_settle moment asked shows w h = h
 
 pub few_robin : (lab : Laboratory) → HasFewTurns (round_robin lab).last.world
 few_robin lab =
     keep_round_robin HasFewTurns (record {
       turns = λ w lane over h. few_turn w lane (longest w lane) (less_turns w over) h;
       issues = few_issue;
-      settles = λ moment asked w drained h. few_settle moment asked w h;
+      settles = λ moment asked shows w drained h. few_settle moment asked shows w h;
     }) lab (omega arith)

@@ -1,9 +1,12 @@
--- What a desk found last is no longer than its store's journal, so that the greatest length in its range is in it. It holds of
--- any list of actors, whatever the order of a node's modules is.
-use Rattle.std.proofs.Common.{◌≡◌, ℕ, zero, suc, ◌+◌, ◌<◌, ◌≤◌, inl, inr, List, [], ◌∷◌, Option, Some, None, length, map, get_or, set, refl, sym, ap, ◌∙◌, subst, arith, get_or-set_same, get_or-set_other}
+-- What a desk found last in a view is no more than the entries that are there, so that the greatest number in its range is in it.
+-- It holds of any list of actors, whatever the order of a node's modules is.
+use Rattle.std.proofs.Common.{◌≡◌, ℕ, zero, suc, ◌+◌, ◌<◌, ◌≤◌, inl, inr, List, [], ◌∷◌, Option, Some, None, length, map, get_or, set, refl, sym, ap, ◌∙◌, subst, arith, get_or-set_same, get_or-set_other, Bool}
 use Rattle.std.specs.Prelude.{slice_get}
 use Rattle.std.proofs.lemmas.Bool.{cases_lt, cases_eq}
 use Rattle.std.proofs.lemmas.List.{set_past}
+use Rattle.std.specs.Option.{option_map_or}
+use Rattle.or_base.specs.declared.asked.Asked.{Asked}
+use Rattle.or_base.specs.declared.asked.Asked.TheVariants.{Key, Prefix}
 use Rattle.or_base.specs.declared.item.Item.{Item}
 use Rattle.or_base.specs.declared.item.Stamped.{Stamped}
 use Rattle.or_base.specs.declared.kind.Kind.{Kind}
@@ -15,22 +18,27 @@ use Rattle.net_record.specs.declared.role.Role.TheVariants.{Driver as DriverRole
 use Rattle.net_record.specs.declared.part.Part.{Part}
 use Rattle.net_record.specs.declared.part.Part.TheVariants.{Driver, Desk, Module}
 use Rattle.net_record.specs.declared.actor.ActorState.{ActorState}
-use Rattle.net_record.specs.Desk.{DeskState, key_asked, with_question, desk_after}
-use Rattle.net_record.specs.Actors.{no_actor, actor_at, new_part, new_actor, desk_of, entries_of, range_asked, range_for, part_step, actor_after, made_by, journal_lengths, part_after_settle, actor_after_settle, actors_after_settle}
+use Rattle.net_record.specs.declared.desk.View.{View}
+use Rattle.net_record.specs.Desk.{DeskState, asked_in, with_question, desk_after}
+use Rattle.net_record.specs.Actors.{no_actor, actor_at, new_part, new_actor, desk_of, entries_of, view_asked, range_in, no_range, range_for, part_step, actor_after, made_by, entry_counts, part_after_settle, actor_after_settle, actors_after_settle}
 use Rattle.net_record.specs.Answers.{giving_of}
 use Rattle.net_record.specs.World.{WorldState, waiting, turn, turn_of, turn_by, reader_of, range, range_by, issue, settle, greatest_clock}
 use Rattle.net_record.proofs.KindsGrow.{part_longer}
 
--- how many entries the journal of an actor has
+-- how many entries an actor has
 abbrev pub entries_at : List ActorState → ℕ → ℕ
 entries_at actors number = length (entries_of (actor_at actors number).part)
 
--- a desk, if it is one, found no more than its store has
+-- what was found last in a view is no more than the entries of the actor that it is of
+abbrev pub IsViewWithin : List ActorState → View → Type 0
+IsViewWithin actors v = v.last ≤ entries_at actors v.owner
+
+-- so it is of both views of a desk, if it is one
 abbrev pub FoundWithin : List ActorState → Option DeskState → Type 0
 FoundWithin actors None = Unit {0}
-FoundWithin actors (Some d) = d.last ≤ entries_at actors d.store
+FoundWithin actors (Some d) = IsViewWithin actors d.store × IsViewWithin actors d.decision
 
--- no desk among these actors found more than its store has
+-- no desk among these actors found more than is there
 abbrev pub DesksFind : List ActorState → Type 0
 DesksFind actors = (number : ℕ) → FoundWithin actors (desk_of (actor_at actors number).part)
 
@@ -38,7 +46,7 @@ DesksFind actors = (number : ℕ) → FoundWithin actors (desk_of (actor_at acto
 within_longer : (actors after : List ActorState) (desk : Option DeskState) → ((number : ℕ) → entries_at actors number ≤ entries_at after number)
     → FoundWithin actors desk → FoundWithin after desk
 within_longer actors after None longer h = tt
-within_longer actors after (Some d) longer h = omega (arith, h, longer d.store)
+within_longer actors after (Some d) longer h = (omega (arith, h.0, longer d.store.owner), omega (arith, h.1, longer d.decision.owner))
 
 -- another actor in the place of one
 pub set_longer : (actors : List ActorState) (n : ℕ) (after : ActorState) → entries_at actors n ≤ length (entries_of after.part)
@@ -73,16 +81,17 @@ find_set actors n after h within last longer number =
 
 -- ---- one turn
 
-found_asked : (actors : List ActorState) (d : DeskState) (asked : Option (List ℕ)) (at : ℕ) → FoundWithin actors (Some d) → at ≤ (range_asked actors (Some d) asked).most
-    → FoundWithin actors (Some (with_question d asked at))
+found_asked : (actors : List ActorState) (d : DeskState) (asked : Option Asked) (at : ℕ) → FoundWithin actors (Some d)
+    → at ≤ (option_map_or (range_in actors) (view_asked (Some d) asked) no_range).most → FoundWithin actors (Some (with_question d asked at))
 found_asked actors d None at last within = last
-found_asked actors d (Some key) at last within = within
+found_asked actors d (Some (Key key)) at last within = (within, last.1)
+found_asked actors d (Some (Prefix prefix)) at last within = (last.0, within)
 
 found_after : (actors : List ActorState) (part : Part) (lane : ℕ) (item : Item) (at : ℕ) → FoundWithin actors (desk_of part) → at ≤ (range_for actors part item).most
     → FoundWithin actors (desk_of (part_step part lane item at).0)
 unfolding part_step range_for desk_after
 found_after actors Driver lane item at last within = tt
-found_after actors (Desk d) lane item at last within = found_asked actors d (key_asked item) at last within
+found_after actors (Desk d) lane item at last within = found_asked actors d (asked_in item) at last within
 found_after actors (Module m) lane item at last within = tt
 
 -- an actor that is there
@@ -120,10 +129,12 @@ find_turn w lane at h within =
     let reader = reader_of (slice_get w.wires lane) in
     find_by w lane at reader (waiting w lane) (slice_get w.actors reader) refl h within
 
-range_fair : (actors : List ActorState) (desk : Option DeskState) (asked : Option (List ℕ)) → FoundWithin actors desk → (range_asked actors desk asked).least ≤ (range_asked actors desk asked).most
+range_fair : (actors : List ActorState) (desk : Option DeskState) (asked : Option Asked) → FoundWithin actors desk
+    → (option_map_or (range_in actors) (view_asked desk asked) no_range).least ≤ (option_map_or (range_in actors) (view_asked desk asked) no_range).most
 range_fair actors None asked last = omega arith
 range_fair actors (Some d) None last = omega arith
-range_fair actors (Some d) (Some key) last = last
+range_fair actors (Some d) (Some (Key key)) last = last.0
+range_fair actors (Some d) (Some (Prefix prefix)) last = last.1
 
 range_by_fair : (actors : List ActorState) (reader : ℕ) (items : List Stamped) (actor : Option ActorState) → slice_get actors reader ≡ actor → DesksFind actors
     → (range_by actors items actor).least ≤ (range_by actors items actor).most
@@ -132,7 +143,7 @@ range_by_fair actors reader [] actor e h = omega arith
 range_by_fair actors reader (s ∷ others) None e h = omega arith
 range_by_fair actors reader (s ∷ others) (Some actor) e h =
     let is = there actors reader actor e in
-    range_fair actors (desk_of actor.part) (key_asked s.item) (subst (λ (a : ActorState). FoundWithin actors (desk_of a.part)) is.1 (h reader))
+    range_fair actors (desk_of actor.part) (asked_in s.item) (subst (λ (a : ActorState). FoundWithin actors (desk_of a.part)) is.1 (h reader))
 
 -- the range of a turn isn't empty
 pub range_holds : (w : WorldState) (lane : ℕ) → DesksFind w.actors → (range w lane).least ≤ (range w lane).most
@@ -145,7 +156,7 @@ range_holds w lane h =
 
 new_within : (actors : List ActorState) (kind : Kind) (role : Role) → FoundWithin actors (desk_of (new_part kind role))
 new_within actors kind DriverRole = tt
-new_within actors kind (Node DeskRole node setup) = omega arith
+new_within actors kind (Node DeskRole node setup) = (omega arith, omega arith)
 new_within actors kind (Node _ node setup) = tt
 new_within actors kind (LinkRole link a b) = tt
 
@@ -167,14 +178,14 @@ entries_settled lengths Driver = refl
 entries_settled lengths (Desk d) = refl
 entries_settled lengths (Module m) = refl
 
--- the length of a journal, among all of them
-pub length_at : (actors : List ActorState) (number : ℕ) → get_or (journal_lengths actors) number 0 ≡ entries_at actors number
+-- how many entries an actor has, among all of them
+pub length_at : (actors : List ActorState) (number : ℕ) → get_or (entry_counts actors) number 0 ≡ entries_at actors number
 length_at [] zero = refl
 length_at [] (suc number) = refl
 length_at (actor ∷ actors) zero = refl
 length_at (actor ∷ actors) (suc number) = length_at actors number
 
--- journals are as long after a settle
+-- actors have as many entries after a settle
 pub settled_long : (clock : ℕ) (lengths : List ℕ) (actors : List ActorState) (number : ℕ) → entries_at (map (actor_after_settle clock lengths) actors) number ≡ entries_at actors number
 settled_long clock lengths [] zero = refl
 settled_long clock lengths [] (suc number) = refl
@@ -184,7 +195,7 @@ settled_long clock lengths (actor ∷ actors) (suc number) = settled_long clock 
 part_within : (after : List ActorState) (lengths : List ℕ) (part : Part) → ((number : ℕ) → get_or lengths number 0 ≤ entries_at after number)
     → FoundWithin after (desk_of (part_after_settle lengths part))
 part_within after lengths Driver most = tt
-part_within after lengths (Desk d) most = most d.store
+part_within after lengths (Desk d) most = (most d.store.owner, most d.decision.owner)
 part_within after lengths (Module m) most = tt
 
 each_within : (after : List ActorState) (clock : ℕ) (lengths : List ℕ) (actors : List ActorState) → ((number : ℕ) → get_or lengths number 0 ≤ entries_at after number)
@@ -196,9 +207,9 @@ each_within after clock lengths (actor ∷ actors) most (suc number) = each_with
 
 find_settled : (clock : ℕ) (actors : List ActorState) → DesksFind (actors_after_settle clock actors)
 find_settled clock actors =
-    each_within (actors_after_settle clock actors) clock (journal_lengths actors) actors
-    (λ number. omega (arith, length_at actors number, settled_long clock (journal_lengths actors) actors number))
+    each_within (actors_after_settle clock actors) clock (entry_counts actors) actors
+    (λ number. omega (arith, length_at actors number, settled_long clock (entry_counts actors) actors number))
 
-pub find_settle : (moment : ℕ) (asked : List ℕ) (w : WorldState) → DesksFind (settle moment asked w).actors
+pub find_settle : (moment : ℕ) (asked : List ℕ) (shows : Bool) (w : WorldState) → DesksFind (settle moment asked shows w).actors
 unfolding settle
-find_settle moment asked w = find_settled (greatest_clock w.actors + 1) (giving_of w.actors asked).actors
+find_settle moment asked shows w = find_settled (greatest_clock w.actors + 1) (giving_of w.actors asked).actors

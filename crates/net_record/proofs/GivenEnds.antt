@@ -33,10 +33,10 @@ given_turns all = record {
   };
   settles = λ w phase later left drained h.
       let asked = desks_asked phase.issues in
-      let next = settle phase.moment asked w in
+      let next = settle phase.moment asked phase.shows_routes w in
       record {
-        wired = wired_begin next later (wired_settle phase.moment asked w h.wired);
-        is = ap (λ (done : Record). schedule_of done.turns ++ left) (record_begun next later []) ∙ ap (λ ts. schedule_of ts ++ left) (turns-settle phase.moment asked w) ∙ h.is;
+        wired = wired_begin next later (wired_settle phase.moment asked phase.shows_routes w h.wired);
+        is = ap (λ (done : Record). schedule_of done.turns ++ left) (record_begun next later []) ∙ ap (λ ts. schedule_of ts ++ left) (turns-settle phase.moment asked phase.shows_routes w) ∙ h.is;
       };
 }
 
@@ -71,10 +71,10 @@ given_settles count = record {
   turns = λ w phase later t left legal unspent h. record { drained = tt; settles = omega (arith, ap length (settles-turn w t.lane t.at), h.settles) };
   settles = λ w phase later left drained h.
       let asked = desks_asked phase.issues in
-      let next = settle phase.moment asked w in
+      let next = settle phase.moment asked phase.shows_routes w in
       record {
-        drained = drained_begun next later (drained-settle phase.moment asked w ∙ drained);
-        settles = omega (arith, settles_begun next later, settles-settle phase.moment asked w, h.settles);
+        drained = drained_begun next later (drained-settle phase.moment asked phase.shows_routes w ∙ drained);
+        settles = omega (arith, settles_begun next later, settles-settle phase.moment asked phase.shows_routes w, h.settles);
       };
 }
 

@@ -35,7 +35,7 @@ pub record GivenKeep (P : Claim) : Type 0 where
   pub turns : (w : WorldState) (phase : Phase) (later : List Phase) (t : Turn) (left : List Turn) → is_legal w t ≡ true → has_spent_turns w.turns ≡ false
       → P w (phase ∷ later) (t ∷ left) → P (turn w t.lane t.at) (phase ∷ later) left
   pub settles : (w : WorldState) (phase : Phase) (later : List Phase) (left : List Turn) → is_drained w ≡ true → P w (phase ∷ later) left
-      → P (begin (settle phase.moment (desks_asked phase.issues) w) later) later left
+      → P (begin (settle phase.moment (desks_asked phase.issues) phase.shows_routes w) later) later left
 
 -- A world has the record of one of which that is said: behind a settle by which too much was done no phase begins.
 pub record HasItsRecord (P : Claim) (w : WorldState) : Type 0 where
@@ -67,7 +67,7 @@ module _ (P : Claim) (keep : GivenKeep P) where
   settles_kept w [] left h = h
   settles_kept w (phase ∷ later) left h = by_tests (is_drained w) (is_heavy next) refl (settles_kept (begin next later) later left) where
     next : WorldState
-    next = settle phase.moment (desks_asked phase.issues) w
+    next = settle phase.moment (desks_asked phase.issues) phase.shows_routes w
 
     by_tests : (drained heavy : Bool) → is_drained w ≡ drained → (P (begin next later) later left → IsKept P (settles_within (begin next later) later) left)
         → IsKept P

@@ -76,12 +76,12 @@ done_begin : (w : WorldState) (phases : List Phase) → HasDone w (begin w phase
 done_begin w [] = done_same w
 done_begin w (phase ∷ phases) = done_issue w phase.issues
 
-done_settle : (moment : ℕ) (asked : List ℕ) (w : WorldState) → HasDone w (settle moment asked w)
+done_settle : (moment : ℕ) (asked : List ℕ) (shows : Bool) (w : WorldState) → HasDone w (settle moment asked shows w)
 unfolding settle
-done_settle moment asked w = record {
+done_settle moment asked shows w = record {
   turns = [];
   more_turns = sym (append-nil w.turns);
-  settles = settle_done moment (length w.turns) w.actors (giving_of w.actors asked).answers ∷ [];
+  settles = settle_done moment (length w.turns) w.actors shows (giving_of w.actors asked).answers ∷ [];
   more_settles = refl;
 }
 
@@ -89,13 +89,13 @@ done_advance : (w : WorldState) (phases : List Phase) → HasDone w (advance w p
 done_advance w [] = done_same w
 done_advance w (phase ∷ phases) = by_test (is_drained w) (done_advance (begin next phases) phases) where
   next : WorldState
-  next = settle phase.moment (desks_asked phase.issues) w
+  next = settle phase.moment (desks_asked phase.issues) phase.shows_routes w
 
   by_test : (drained : Bool) → HasDone (begin next phases) (advance (begin next phases) phases).world
       → HasDone w (cond drained (advance (begin next phases) phases) (let p : Progress = record { world = w; unsettled = phase ∷ phases } in p)).world
   by_test false others = done_same w
   by_test true others =
-      done_then w next (advance (begin next phases) phases).world (done_settle phase.moment (desks_asked phase.issues) w)
+      done_then w next (advance (begin next phases) phases).world (done_settle phase.moment (desks_asked phase.issues) phase.shows_routes w)
       (done_then next (begin next phases) (advance (begin next phases) phases).world (done_begin next phases) others)
 
 done_run : (p : Progress) (ts : List Turn) (last : WorldState) → run_from p ts ≡ Ok last → HasDone p.world last
@@ -136,10 +136,10 @@ wired_begin w (phase ∷ phases) wired = wired_issue w phase.issues wired
 wired_advance : (w : WorldState) (phases : List Phase) → IsWired w → IsWired (advance w phases).world
 wired_advance w [] wired = wired
 wired_advance w (phase ∷ phases) wired =
-    let after = settle phase.moment (desks_asked phase.issues) w in
-    by_test (is_drained w) (wired_advance (begin after phases) phases (wired_begin after phases (wired_settle phase.moment (desks_asked phase.issues) w wired))) where
+    let after = settle phase.moment (desks_asked phase.issues) phase.shows_routes w in
+    by_test (is_drained w) (wired_advance (begin after phases) phases (wired_begin after phases (wired_settle phase.moment (desks_asked phase.issues) phase.shows_routes w wired))) where
       next : WorldState
-      next = settle phase.moment (desks_asked phase.issues) w
+      next = settle phase.moment (desks_asked phase.issues) phase.shows_routes w
 
       by_test : (drained : Bool) → IsWired (advance (begin next phases) phases).world
           → IsWired (cond drained (advance (begin next phases) phases) (let p : Progress = record { world = w; unsettled = phase ∷ phases } in p)).world
@@ -184,7 +184,7 @@ settles_on : (w : WorldState) (phases : List Phase) → IsOn (settles_within w p
 settles_on w [] = refl
 settles_on w (phase ∷ phases) = by_tests (is_drained w) (is_heavy next) refl (settles_on (begin next phases) phases) where
   next : WorldState
-  next = settle phase.moment (desks_asked phase.issues) w
+  next = settle phase.moment (desks_asked phase.issues) phase.shows_routes w
 
   by_tests : (drained heavy : Bool) → is_heavy next ≡ heavy → IsOn (settles_within (begin next phases) phases) (advance (begin next phases) phases)
       → IsOn

@@ -20,7 +20,7 @@ settles_advance : (w : WorldState) (phases : List Phase) → IsStage (settles_wi
 settles_advance w [] = refl
 settles_advance w (phase ∷ phases) = by_tests (is_drained w) (is_heavy next) (settles_advance (begin next phases) phases) where
   next : WorldState
-  next = settle phase.moment (desks_asked phase.issues) w
+  next = settle phase.moment (desks_asked phase.issues) phase.shows_routes w
 
   by_tests : (drained heavy : Bool) → IsStage (settles_within (begin next phases) phases) (advance (begin next phases) phases)
       → IsStage

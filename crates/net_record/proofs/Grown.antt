@@ -1,5 +1,5 @@
 -- Journals only grow in a run, so that what a settle tells of them stays true.
-use Rattle.std.proofs.Common.{◌≡◌, ℕ, zero, suc, ◌+◌, ◌<◌, List, [], ◌∷◌, ◌++◌, Option, Some, None, length, map, get_or, set, take, refl, sym, ap, ◌∙◌, subst, arith, take_at}
+use Rattle.std.proofs.Common.{◌≡◌, ℕ, zero, suc, ◌+◌, ◌<◌, List, [], ◌∷◌, ◌++◌, Option, Some, None, length, map, get_or, set, take, refl, sym, ap, ◌∙◌, subst, arith, take_at, Bool}
 use Rattle.std.specs.Prelude.{slice_get}
 use Rattle.or_base.specs.declared.entry.JournalEntry.{JournalEntry}
 use Rattle.std.specs.Prelude.{option_map, option_to_list}
@@ -13,7 +13,7 @@ use Rattle.kv_store.proofs.Growth.{front_same, front_then}
 use Rattle.net_record.specs.declared.part.Part.{Part}
 use Rattle.net_record.specs.declared.part.Part.TheVariants.{Driver, Desk, Module}
 use Rattle.net_record.specs.declared.actor.ActorState.{ActorState}
-use Rattle.net_record.specs.Actors.{no_actor, actor_at, store_of, part_step, made_by, actor_after, journal_lengths, part_after_settle, actor_after_settle, actors_after_settle, part_without_question, actor_without_question}
+use Rattle.net_record.specs.Actors.{no_actor, actor_at, store_of, part_step, made_by, actor_after, entry_counts, part_after_settle, actor_after_settle, actors_after_settle, part_without_question, actor_without_question}
 use Rattle.net_record.specs.Answers.{Giving, give, give_all, giving_of}
 use Rattle.net_record.specs.World.{WorldState, waiting, turn, turn_of, turn_by, reader_of, issue, settle, greatest_clock, mark_of_store, marks_of}
 use Rattle.net_record.specs.Records.{journal_of, journals_of}
@@ -134,13 +134,13 @@ journals_give_all : (g : Giving) (numbers : List ℕ) → journals_of (give_all 
 journals_give_all g [] = refl
 journals_give_all g (number ∷ numbers) = journals_give_all (give g number) numbers ∙ journals_give g number
 
-pub grow_settle : (moment : ℕ) (asked : List ℕ) (w : WorldState) → Grow w (settle moment asked w)
+pub grow_settle : (moment : ℕ) (asked : List ℕ) (shows : Bool) (w : WorldState) → Grow w (settle moment asked shows w)
 unfolding settle
-grow_settle moment asked w =
+grow_settle moment asked shows w =
     let g = giving_of w.actors asked in
     let clock = greatest_clock w.actors + 1 in
     fronts_equal (journals_of w.actors) (journals_of (actors_after_settle clock g.actors))
-    (journals_settled clock (journal_lengths g.actors) g.actors ∙ journals_give_all (record { actors = w.actors; answers = [] }) asked)
+    (journals_settled clock (entry_counts g.actors) g.actors ∙ journals_give_all (record { actors = w.actors; answers = [] }) asked)
 
 pub grow_issue : (w : WorldState) (issues : List Output) → Grow w (issue w issues)
 unfolding issue

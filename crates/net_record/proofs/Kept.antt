@@ -19,7 +19,7 @@ TurnsKeep P = (w : WorldState) (lane : ℕ) → is_over w ≡ false → P w → 
 pub record RunsKeep (P : WorldState → Type 0) : Type 0 where
   pub turns : TurnsKeep P
   pub issues : (w : WorldState) (issues : List Output) → P w → P (issue w issues)
-  pub settles : (moment : ℕ) (asked : List ℕ) (w : WorldState) → is_drained w ≡ true → P w → P (settle moment asked w)
+  pub settles : (moment : ℕ) (asked : List ℕ) (shows : Bool) (w : WorldState) → is_drained w ≡ true → P w → P (settle moment asked shows w)
 
 -- ---- rounds
 
@@ -67,9 +67,9 @@ module _ (P : WorldState → Type 0) (keep : RunsKeep P) where
       → P (goes_on unsettled over number done (settle_after phase done) phases).last.world
   keep_goes_on true over number phase done phases e h others = h
   keep_goes_on false true number phase done phases e h others =
-      keep.settles phase.moment (desks_asked phase.issues) done.world (drained-or (is_over done.world) (is_drained done.world) e) h
+      keep.settles phase.moment (desks_asked phase.issues) phase.shows_routes done.world (drained-or (is_over done.world) (is_drained done.world) e) h
   keep_goes_on false false number phase done phases e h others =
-      others (keep.settles phase.moment (desks_asked phase.issues) done.world (drained-or (is_over done.world) (is_drained done.world) e) h)
+      others (keep.settles phase.moment (desks_asked phase.issues) phase.shows_routes done.world (drained-or (is_over done.world) (is_drained done.world) e) h)
 
   keep_rounds_from : (number : ℕ) (m : Marked) (phases : List Phase) → P m.world → P (rounds_from number m phases).last.world
   keep_rounds_from number m [] h = h

@@ -4,7 +4,6 @@ pub mod Weighing
 pub mod Enumerated
 pub mod Ported
 pub mod Parts
-pub mod Asking
 pub mod KindsGrow
 pub mod Counted
 pub mod Turns
@@ -17,13 +16,10 @@ pub mod Drained
 pub mod Grown
 pub mod Standing
 pub mod Places
-pub mod Awaiting
-pub mod Attentive
-pub mod Held
-pub mod RunsHeld
 pub mod Tellers
 pub mod FewTurns
 pub mod SyncsTold
+pub mod Shown
 pub mod GivenRounds
 pub mod GivenKept
 pub mod GivenEnds

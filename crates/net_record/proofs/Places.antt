@@ -24,11 +24,16 @@ use Rattle.net_record.specs.declared.role.Role.TheVariants.{Driver as DriverRole
 use Rattle.net_record.specs.declared.actor.ActorState.{ActorState}
 use Rattle.net_record.specs.declared.record.NodeMark.{NodeMark}
 use Rattle.net_record.specs.Desk.{DeskState}
-use Rattle.net_record.specs.Roles.{modules_of, is_same_module, first_place, store_number, ends_at, node_roles, link_role, roles}
+use Rattle.net_record.specs.Roles.{modules_of, is_same_module, first_place, store_number, ends_at, node_roles, link_role, roles, decision_number, node_names}
+use Rattle.net_record.specs.declared.kinds.AnyModule.{AnyModule}
+use Rattle.net_record.specs.declared.kinds.AnyModule.TheVariants.{Spark, LinkMonitor, PrefixManager, Store, Decision, Fib, Link}
+use Rattle.net_record.specs.declared.part.Part.{Part}
+use Rattle.net_record.specs.declared.part.Part.TheVariants.{Driver, Desk, Module}
+use Rattle.net_record.specs.Kinds.{store_in, entries_in}
 use Rattle.net_record.specs.Actors.{no_actor, actor_at, desk_of, store_of, entries_of, new_part, new_actor}
 use Rattle.net_record.specs.World.{marks_of}
 use Rattle.net_record.specs.Records.{journals_of}
-use Rattle.net_record.specs.Answered.{no_mark, entries_told, node_names}
+use Rattle.net_record.specs.Marks.{no_mark, entries_told}
 use Rattle.net_record.proofs.Standing.{Standing, node_and_store, standing_of, standings, no_standing}
 
 -- ---- the place of a store
@@ -61,6 +66,21 @@ journal_listed : (store : Option StoreState) → option_to_list (option_map (λ 
 journal_listed None = refl
 journal_listed (Some s) = refl
 
+-- the entries of a store are its journal
+store_entries : (m : AnyModule) → is_some (store_in m) ≡ true → option_map_or (λ (s : StoreState). s.journal) (store_in m) [] ≡ entries_in m
+store_entries (Store s) e = refl
+store_entries (Spark s) e = cc e
+store_entries (LinkMonitor s) e = cc e
+store_entries (PrefixManager s) e = cc e
+store_entries (Decision s) e = cc e
+store_entries (Fib s) e = cc e
+store_entries (Link s) e = cc e
+
+journal_entries : (part : Part) → is_some (store_of part) ≡ true → option_map_or (λ (s : StoreState). s.journal) (store_of part) [] ≡ entries_of part
+journal_entries Driver e = cc e
+journal_entries (Desk d) e = cc e
+journal_entries (Module m) e = store_entries m e
+
 -- the journal of a store has its place among the journals
 pub journal_placed : (actors : List ActorState) (number : ℕ) → (standing_of (actor_at actors number).part).store ≡ true
     → get_or (journals_of actors) (stores_before (standings actors) number) [] ≡ entries_of (actor_at actors number).part
@@ -68,6 +88,7 @@ journal_placed [] number e = refl
 journal_placed (actor ∷ actors) zero e =
     ap (λ js. get_or (js ++ journals_of actors) 0 []) (journal_listed (store_of actor.part))
     ∙ first_of_store (λ s. s.journal) [] (store_of actor.part) (journals_of actors) e
+    ∙ journal_entries actor.part e
 journal_placed (actor ∷ actors) (suc number) e =
     ap (λ js. get_or (js ++ journals_of actors) (stores_before (standings (actor ∷ actors)) (suc number)) []) (journal_listed (store_of actor.part))
     ∙ later_of_store (λ s. s.journal) [] (store_of actor.part) (journals_of actors) (take number (are_stores (standings actors)))
@@ -90,6 +111,7 @@ mark_placed [] number e = refl
 mark_placed (actor ∷ actors) zero e =
     ap (λ (mark : NodeMark). mark.entries) (first_of_store (mark_told actor.told) no_mark (store_of actor.part) (marks_of actors) e)
     ∙ entries_marked actor.told (store_of actor.part)
+    ∙ ap length (journal_entries actor.part e)
 mark_placed (actor ∷ actors) (suc number) e =
     ap (λ (mark : NodeMark). mark.entries)
     (later_of_store (mark_told actor.told) no_mark (store_of actor.part) (marks_of actors) (take number (are_stores (standings actors))))
@@ -159,7 +181,7 @@ node_stores (m ∷ modules) node setup =
 
 -- what the modules of a node in this place are set up with
 abbrev pub setup_at : List NodeModule → List LinkDecl → Option ℕ → ℕ → NodeDecl → NodeSetup
-setup_at modules links ttl place node = record { store = store_number modules place; ends = ends_at links node.name; ttl = ttl }
+setup_at modules links ttl place node = record { store = store_number modules place; decision = decision_number modules place; ends = ends_at links node.name; ttl = ttl }
 
 -- the roles of nodes, the first of which has this place, and then these
 abbrev nodes_then : List NodeModule → List LinkDecl → Option ℕ → ℕ → List NodeDecl → List Role → List Role

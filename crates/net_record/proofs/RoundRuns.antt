@@ -10,7 +10,7 @@ use Rattle.net_record.specs.Roles.{roles}
 use Rattle.net_record.specs.Wires.{wires}
 use Rattle.net_record.specs.Phases.{phases}
 use Rattle.net_record.specs.declared.actor.ActorState.{ActorState}
-use Rattle.net_record.specs.Actors.{actor_at, new_actor, actor_without_question, journal_lengths, actor_after_settle, actors_after_settle}
+use Rattle.net_record.specs.Actors.{actor_at, new_actor, actor_without_question, entry_counts, actor_after_settle, actors_after_settle}
 use Rattle.net_record.specs.Answers.{Giving, desks_asked, give, give_all, giving_of}
 use Rattle.net_record.specs.World.{WorldState, world_of, start, is_drained, issue, settle, driver_clock, greatest_clock}
 use Rattle.net_record.specs.Budget.{is_over}
@@ -49,11 +49,11 @@ length-give_all g (number ∷ numbers) = length-give_all (give g number) numbers
 pub length-settled : (clock : ℕ) (asked : List ℕ) (actors : List ActorState) → length (actors_after_settle clock (giving_of actors asked).actors) ≡ length actors
 length-settled clock asked actors =
     let g = giving_of actors asked in
-    length-map g.actors (actor_after_settle clock (journal_lengths g.actors)) ∙ length-give_all (record { actors = actors; answers = [] }) asked
+    length-map g.actors (actor_after_settle clock (entry_counts g.actors)) ∙ length-give_all (record { actors = actors; answers = [] }) asked
 
-pub wired_settle : (moment : ℕ) (asked : List ℕ) (w : WorldState) → IsWired w → IsWired (settle moment asked w)
+pub wired_settle : (moment : ℕ) (asked : List ℕ) (shows : Bool) (w : WorldState) → IsWired w → IsWired (settle moment asked shows w)
 unfolding settle
-wired_settle moment asked w wired =
+wired_settle moment asked shows w wired =
     let clock = greatest_clock w.actors + 1 in
     record {
       as_many = wired.as_many;
@@ -66,8 +66,8 @@ ready_world_of kind all = record { wired = wired_world_of kind all; find = find_
 pub ready_issue : (w : WorldState) (issues : List Output) → IsReady w → IsReady (issue w issues)
 ready_issue w issues ready = record { wired = wired_issue w issues ready.wired; find = find_issue w issues ready.find }
 
-pub ready_settle : (moment : ℕ) (asked : List ℕ) (w : WorldState) → IsReady w → IsReady (settle moment asked w)
-ready_settle moment asked w ready = record { wired = wired_settle moment asked w ready.wired; find = find_settle moment asked w }
+pub ready_settle : (moment : ℕ) (asked : List ℕ) (shows : Bool) (w : WorldState) → IsReady w → IsReady (settle moment asked shows w)
+ready_settle moment asked shows w ready = record { wired = wired_settle moment asked shows w ready.wired; find = find_settle moment asked shows w }
 
 -- no round is wanted any more
 abbrev stops : WorldState → Bool
@@ -172,15 +172,15 @@ runs_phases (phase ∷ phases) number m ready settles =
     let next = next_phase m phase in
     rounds_run (marked_with_issues m phase) phase.rounds phase phases (turns_of_phases next phases) (ready_issue m.world phase.issues ready)
     ∙ settled_phase number phase phases (turns_of_phases next phases) done (is_over done.world || not (is_drained done.world)) (is_over next.world) refl settles
-    (λ others. runs_phases phases (number + 1) next (ready_settle phase.moment (desks_asked phase.issues) done.world (ready_phase m phase ready)) others)
+    (λ others. runs_phases phases (number + 1) next (ready_settle phase.moment (desks_asked phase.issues) phase.shows_routes done.world (ready_phase m phase ready)) others)
 
 turns-issue : (w : WorldState) (issues : List Output) → (issue w issues).turns ≡ w.turns
 unfolding issue
 turns-issue w issues = refl
 
-pub turns-settle : (moment : ℕ) (asked : List ℕ) (w : WorldState) → (settle moment asked w).turns ≡ w.turns
+pub turns-settle : (moment : ℕ) (asked : List ℕ) (shows : Bool) (w : WorldState) → (settle moment asked shows w).turns ≡ w.turns
 unfolding settle
-turns-settle moment asked w = refl
+turns-settle moment asked shows w = refl
 
 abbrev SchedulesPhases : List Phase → Type 0
 SchedulesPhases phases =
@@ -193,7 +193,7 @@ scheduled_phase : (number : ℕ) (phase : Phase) (phases : List Phase) (later : 
     → schedule_of (rounds_from (number + 1) (settle_after phase done) phases).last.world.turns ≡ schedule_of (settle_after phase done).world.turns ++ later)
     → schedule_of (goes_on unsettled over number done (settle_after phase done) phases).last.world.turns ≡ schedule_of done.world.turns ++ later
 scheduled_phase number phase phases later done false false settles others =
-    others settles ∙ ap (λ ts. schedule_of ts ++ later) (turns-settle phase.moment (desks_asked phase.issues) done.world)
+    others settles ∙ ap (λ ts. schedule_of ts ++ later) (turns-settle phase.moment (desks_asked phase.issues) phase.shows_routes done.world)
 scheduled_phase number phase phases later done false true settles others = cc settles
 scheduled_phase number phase phases later done true over settles others = cc settles
 
@@ -204,7 +204,7 @@ schedules_phases (phase ∷ phases) number m ready settles =
     let next = next_phase m phase in
     let later = turns_of_phases next phases in
     scheduled_phase number phase phases later done (is_over done.world || not (is_drained done.world)) (is_over next.world) settles
-    (λ others. schedules_phases phases (number + 1) next (ready_settle phase.moment (desks_asked phase.issues) done.world (ready_phase m phase ready)) others)
+    (λ others. schedules_phases phases (number + 1) next (ready_settle phase.moment (desks_asked phase.issues) phase.shows_routes done.world (ready_phase m phase ready)) others)
     ∙ rounds_scheduled (marked_with_issues m phase) phase.rounds later (ready_issue m.world phase.issues ready)
     ∙ ap (λ ts. schedule_of ts ++ then_rounds phase.rounds (issue m.world phase.issues) later) (turns-issue m.world phase.issues)
 

@@ -43,7 +43,7 @@ given_reach lab = record {
       let asked = desks_asked phase.issues in
       record {
         reached = settles w phase later h.reached drained;
-        few = few_begun (settle phase.moment asked w) later (few_settle phase.moment asked w h.few);
+        few = few_begun (settle phase.moment asked phase.shows_routes w) later (few_settle phase.moment asked phase.shows_routes w h.few);
       };
 }
 
@@ -97,7 +97,7 @@ phase_reached lab false over number phase done later e h others =
 
       by_test : (over : Bool) → IsReached lab (begin next.world later) later → HasItsRecord (IsOnTheWay lab) (goes_on false over number done next later).last.world
       by_test true reached = as_begun (IsOnTheWay lab) next.world later [] reached
-      by_test false reached = others (number + 1) next (ready_settle phase.moment (desks_asked phase.issues) done.world h.ready) reached
+      by_test false reached = others (number + 1) next (ready_settle phase.moment (desks_asked phase.issues) phase.shows_routes done.world h.ready) reached
 
 rounds_reach : (lab : Laboratory) (phases : List Phase) → RoundsReach lab phases
 rounds_reach lab [] number m ready reached = its_own (IsOnTheWay lab) m.world [] [] reached

@@ -1,7 +1,6 @@
 -- What the record of a run tells is what was there, under any legal schedule.
-use Rattle.std.proofs.Common.{◌≡◌, ◌≤◌, ℕ, List, [], ◌∷◌, ◌++◌, ◌⊎◌, inl, inr, Option, Some, None, true, not, length, take, refl, sym, ap, ◌∙◌, subst, append_assoc, take_at}
-use Rattle.std.specs.Prelude.{nat_le, slice_get}
-use Rattle.std.proofs.lemmas.Bool.{and_parts, leb-true}
+use Rattle.std.proofs.Common.{◌≡◌, ◌≤◌, ℕ, List, [], ◌∷◌, ◌++◌, ◌⊎◌, inl, inr, Option, Some, None, true, length, take, refl, sym, ap, ◌∙◌, subst, append_assoc, take_at, Bool}
+use Rattle.std.specs.Prelude.{slice_get}
 use Rattle.std.proofs.lemmas.List.{append-nil}
 use Rattle.or_base.specs.TurnDone.{TurnDone}
 use Rattle.or_base.specs.declared.item.Stamped.{Stamped}
@@ -9,26 +8,24 @@ use Rattle.or_actor.specs.declared.output.Output.{Output}
 use Rattle.or_actor.specs.Steps.{TurnMade, turn_done}
 use Rattle.net_laboratory.specs.Limits.{most_turns}
 use Rattle.net_laboratory.specs.Scenario.{Laboratory}
-use Rattle.net_laboratory.specs.declared.schedule.Turn.{Turn}
 use Rattle.net_record.specs.declared.actor.ActorState.{ActorState}
 use Rattle.net_record.specs.declared.phase.Phase.{Phase}
 use Rattle.net_record.specs.declared.record.Record.{Record}
 use Rattle.net_record.specs.declared.record.SettleDone.{SettleDone}
 use Rattle.net_record.specs.Phases.{phases}
-use Rattle.net_record.specs.Actors.{is_in_range, made_by}
+use Rattle.net_record.specs.Actors.{made_by}
 use Rattle.net_record.specs.Answers.{desks_asked, giving_of}
 use Rattle.net_record.specs.Records.{journals_of, record_of}
-use Rattle.net_record.specs.World.{WorldState, start, turn, turn_of, turn_by, reader_of, range, waiting, is_empty, is_drained, issue, settle, settle_done}
+use Rattle.net_record.specs.World.{WorldState, start, turn, turn_of, turn_by, reader_of, waiting, is_drained, issue, settle, settle_done}
 use Rattle.net_record.specs.Fronts.{fronts}
-use Rattle.net_record.specs.Run.{begin, is_legal}
+use Rattle.net_record.specs.Run.{begin}
 use Rattle.net_record.specs.Reached.{IsReached}
 use Rattle.net_record.specs.Reached.IsReached.{starts, turns, settles}
 use Rattle.net_record.specs.Tells.{IsToldAtSettle, RecordTells, RunsTell}
 use Rattle.net_record.proofs.Drained.{settles-turn, settles-issue}
-use Rattle.net_record.proofs.Grown.{Grow, grow_then, grow_turn, grow_settle, grow_issue, fronts_same, tell}
-use Rattle.net_record.proofs.Attentive.{IsWithin}
+use Rattle.net_record.proofs.Grown.{Grow, grow_then, grow_turn, grow_settle, grow_issue, tell}
 use Rattle.net_record.proofs.FewTurns.{HasFewTurns}
-use Rattle.net_record.proofs.RunsHeld.{Holds, hold_start, hold_turn, hold_issue, hold_settle}
+use Rattle.net_record.proofs.Shown.{fronts_told}
 use Rattle.net_record.proofs.SyncsTold.{AreTold, told_start, told_begin, told_turn, told_settle, syncs_apart}
 
 -- ---- finished full syncs
@@ -37,7 +34,7 @@ told_reached : (lab : Laboratory) {w : WorldState} {later : List Phase} → IsRe
 told_reached lab starts = told_begin (start lab) (phases lab) (told_start lab)
 told_reached lab (turns w phase later t before legal) = told_turn w t.lane t.at (told_reached lab before)
 told_reached lab (settles w phase later before drained) =
-    told_begin (settle phase.moment (desks_asked phase.issues) w) later (told_settle phase.moment (desks_asked phase.issues) w (told_reached lab before))
+    told_begin (settle phase.moment (desks_asked phase.issues) phase.shows_routes w) later (told_settle phase.moment (desks_asked phase.issues) phase.shows_routes w (told_reached lab before))
 
 -- ---- turns
 
@@ -71,15 +68,15 @@ more_issue : (w : WorldState) (issues : List Output) → HasMoreTurns w (issue w
 unfolding issue
 more_issue w issues = same_turns w (issue w issues) refl
 
-more_settle : (moment : ℕ) (asked : List ℕ) (w : WorldState) → HasMoreTurns w (settle moment asked w)
+more_settle : (moment : ℕ) (asked : List ℕ) (shows : Bool) (w : WorldState) → HasMoreTurns w (settle moment asked shows w)
 unfolding settle
-more_settle moment asked w = same_turns w (settle moment asked w) refl
+more_settle moment asked shows w = same_turns w (settle moment asked shows w) refl
 
 -- ---- stores
 
 -- what is recorded as the phase settles in the world
 abbrev settle_in : WorldState → Phase → SettleDone
-settle_in w phase = settle_done phase.moment (length w.turns) w.actors (giving_of w.actors (desks_asked phase.issues)).answers
+settle_in w phase = settle_done phase.moment (length w.turns) w.actors phase.shows_routes (giving_of w.actors (desks_asked phase.issues)).answers
 
 -- The world in which a settle was done, behind those before, on the way to a world.
 record IsDoneIn (lab : Laboratory) (now : WorldState) (before : List SettleDone) (s : SettleDone) : Type 0 where
@@ -137,17 +134,17 @@ last_or_before (b ∷ bs) others (y ∷ ys) x last e =
     ]
 
 -- the settle that is done
-pub settle_of : (moment : ℕ) (asked : List ℕ) (w : WorldState)
-    → (settle moment asked w).settles ≡ w.settles ++ settle_done moment (length w.turns) w.actors (giving_of w.actors asked).answers ∷ []
+pub settle_of : (moment : ℕ) (asked : List ℕ) (shows : Bool) (w : WorldState)
+    → (settle moment asked shows w).settles ≡ w.settles ++ settle_done moment (length w.turns) w.actors shows (giving_of w.actors asked).answers ∷ []
 unfolding settle
-settle_of moment asked w = refl
+settle_of moment asked shows w = refl
 
 done_settle : (lab : Laboratory) (phase : Phase) (later : List Phase) (w : WorldState) → IsReached lab w (phase ∷ later) → is_drained w ≡ true
-    → AreDone lab w → AreDone lab (settle phase.moment (desks_asked phase.issues) w)
+    → AreDone lab w → AreDone lab (settle phase.moment (desks_asked phase.issues) phase.shows_routes w)
 done_settle lab phase later w reached drained h before others s e =
     let asked = desks_asked phase.issues in
-    let v = settle phase.moment asked w in
-    elim (last_or_before before others w.settles s (settle_in w phase) (sym (settle_of phase.moment asked w) ∙ e)) [
+    let v = settle phase.moment asked phase.shows_routes w in
+    elim (last_or_before before others w.settles s (settle_in w phase) (sym (settle_of phase.moment asked phase.shows_routes w) ∙ e)) [
       | inl (is, last) ↦ record {
         world = w;
         phase = phase;
@@ -156,10 +153,10 @@ done_settle lab phase later w reached drained h before others s e =
         drained = drained;
         settled = is;
         tells = sym last;
-        turns = more_settle phase.moment asked w;
-        grow = grow_settle phase.moment asked w;
+        turns = more_settle phase.moment asked phase.shows_routes w;
+        grow = grow_settle phase.moment asked phase.shows_routes w;
       }
-      | inr (rest, is) ↦ done_later lab w v before s (more_settle phase.moment asked w) (grow_settle phase.moment asked w) (h before rest s is)
+      | inr (rest, is) ↦ done_later lab w v before s (more_settle phase.moment asked phase.shows_routes w) (grow_settle phase.moment asked phase.shows_routes w) (h before rest s is)
     ]
 
 pub none_settled : (before others : List SettleDone) (s : SettleDone) → [] ≡ before ++ s ∷ others → ⊥
@@ -171,7 +168,7 @@ done_reached lab starts = done_begin lab (start lab) (phases lab) (λ before oth
 done_reached lab (turns w phase later t before legal) =
     done_same lab w (turn w t.lane t.at) (settles-turn w t.lane t.at) (more_turn w t.lane t.at) (grow_turn w t.lane t.at) (done_reached lab before)
 done_reached lab (settles w phase later before drained) =
-    done_begin lab (settle phase.moment (desks_asked phase.issues) w) later
+    done_begin lab (settle phase.moment (desks_asked phase.issues) phase.shows_routes w) later
     (done_settle lab phase later w before drained (done_reached lab before))
 
 told_at_settle : (lab : Laboratory) (now : WorldState) (marks : List ℕ) (before : List SettleDone) (s : SettleDone)
@@ -188,44 +185,16 @@ told_at_settle lab now marks before s h =
       settles = h.settled;
       turns = sym (take_at h.world.turns h.turns.more s.turns count) ∙ ap (take s.turns) (sym h.turns.is);
       tells = h.tells;
-      stores = tell h.world.actors journals h.grow ∙ ap (λ (done : SettleDone). fronts done.nodes journals) (sym h.tells);
+      stores = tell h.world.actors journals h.grow ∙ sym (fronts_told h.world.actors h.phase.shows_routes journals) ∙ ap (λ (done : SettleDone). fronts done.nodes journals) (sym h.tells);
     }
-
--- ---- answers
-
-legal_within : (w : WorldState) (t : Turn) → is_legal w t ≡ true → IsWithin (range w t.lane) t.at
-legal_within w t legal =
-    let may = range w t.lane in
-    let parts = and_parts (not (is_empty (waiting w t.lane))) (is_in_range may t.at) legal in
-    let ends = and_parts (nat_le may.least t.at) (nat_le t.at may.most) parts.1 in
-    (leb-true may.least t.at ends.0, leb-true t.at may.most ends.1)
-
--- the desks that are asked in the first of these phases
-abbrev asked_first : List Phase → List ℕ
-asked_first [] = []
-asked_first (phase ∷ later) = desks_asked phase.issues
-
-hold_begin : (lab : Laboratory) (w : WorldState) (later : List Phase) → Holds lab [] w → Holds lab (asked_first later) (begin w later)
-hold_begin lab w [] h = h
-hold_begin lab w (phase ∷ later) h = hold_issue lab w phase.issues h
-
-hold_reached : (lab : Laboratory) {w : WorldState} {later : List Phase} → IsReached lab w later → Holds lab (asked_first later) w
-hold_reached lab starts = hold_begin lab (start lab) (phases lab) (hold_start lab)
-hold_reached lab (turns w phase later t before legal) = hold_turn lab (desks_asked phase.issues) w t.lane t.at (legal_within w t legal) (hold_reached lab before)
-hold_reached lab (settles w phase later before drained) =
-    hold_begin lab (settle phase.moment (desks_asked phase.issues) w) later
-    (hold_settle lab phase.moment (desks_asked phase.issues) w drained (hold_reached lab before))
 
 -- ---- the law
 
 record_tells : (lab : Laboratory) (w : WorldState) (later : List Phase) (marks : List ℕ) → IsReached lab w later → HasFewTurns w
     → RecordTells lab (record_of w marks)
 record_tells lab w later marks reached few =
-    let held = (hold_reached lab reached).held in
     record {
       settles = λ before others s e. told_at_settle lab w marks before s (done_reached lab reached before others s e);
-      answers = held.answered (journals_of w.actors) (fronts_same (journals_of w.actors));
-      current = held.current;
       syncs = syncs_apart w (told_reached lab reached) few;
     }
 

@@ -3,6 +3,8 @@
 use Rattle.std.proofs.Common.{◌≡◌, ℕ, List, [], ◌∷◌, Bool, true, false, Option, Some, None, map, set, refl, sym, ap, ◌∙◌}
 use Rattle.std.specs.Prelude.{slice_get, option_map, is_some}
 use Rattle.std.proofs.Math.Seq.{map-set_same}
+use Rattle.or_base.specs.declared.asked.Asked.{Asked}
+use Rattle.or_base.specs.declared.asked.Asked.TheVariants.{Key, Prefix}
 use Rattle.or_base.specs.declared.item.Item.{Item}
 use Rattle.or_base.specs.declared.item.Stamped.{Stamped}
 use Rattle.or_actor.specs.Steps.{TurnMade}
@@ -11,7 +13,7 @@ use Rattle.net_record.specs.declared.part.Part.{Part}
 use Rattle.net_record.specs.declared.part.Part.TheVariants.{Driver, Desk, Module}
 use Rattle.net_record.specs.declared.actor.ActorState.{ActorState}
 use Rattle.net_record.specs.Kinds.{module_step, store_in}
-use Rattle.net_record.specs.Desk.{DeskState, key_asked, with_question, desk_after}
+use Rattle.net_record.specs.Desk.{DeskState, asked_in, with_question, desk_after}
 use Rattle.net_record.specs.Actors.{no_actor, desk_of, store_of, part_step, actor_after, part_after_settle, actor_after_settle, part_without_question}
 use Rattle.net_record.specs.World.{WorldState, turn_of}
 use Rattle.net_record.proofs.KindsGrow.{Grows, part_grows}
@@ -25,7 +27,7 @@ pub record Standing : Type 0 where
   pub driver : Bool
 
 abbrev pub node_and_store : DeskState → List ℕ × ℕ
-node_and_store d = (d.node, d.store)
+node_and_store d = (d.node, d.store.owner)
 
 abbrev pub is_driver : Part → Bool
 is_driver Driver = true
@@ -50,9 +52,10 @@ store_stays None (Some t) g = absurd g
 store_stays (Some s) None g = absurd g
 store_stays (Some s) (Some t) g = refl
 
-pub node_and_store-question : (d : DeskState) (asked : Option (List ℕ)) (at : ℕ) → node_and_store (with_question d asked at) ≡ node_and_store d
+pub node_and_store-question : (d : DeskState) (asked : Option Asked) (at : ℕ) → node_and_store (with_question d asked at) ≡ node_and_store d
 node_and_store-question d None at = refl
-node_and_store-question d (Some key) at = refl
+node_and_store-question d (Some (Key key)) at = refl
+node_and_store-question d (Some (Prefix prefix)) at = refl
 
 standing_of-desk : (d e : DeskState) → node_and_store e ≡ node_and_store d → standing_of (Desk e) ≡ standing_of (Desk d)
 standing_of-desk d e is = ap (λ s. let one : Standing = record { desk = Some s; store = false; driver = false } in one) is
@@ -60,7 +63,7 @@ standing_of-desk d e is = ap (λ s. let one : Standing = record { desk = Some s;
 part_stays : (part : Part) (lane : ℕ) (item : Item) (at : ℕ) → standing_of (part_step part lane item at).0 ≡ standing_of part
 unfolding part_step desk_after
 part_stays Driver lane item at = refl
-part_stays (Desk d) lane item at = standing_of-desk d (with_question d (key_asked item) at) (node_and_store-question d (key_asked item) at)
+part_stays (Desk d) lane item at = standing_of-desk d (with_question d (asked_in item) at) (node_and_store-question d (asked_in item) at)
 part_stays (Module m) lane item at =
     ap (λ stays. let one : Standing = record { desk = None; store = stays; driver = false } in one)
     (store_stays (store_in m) (store_in (module_step m lane item).0) (part_grows (Module m) lane item at))

@@ -1,5 +1,5 @@
 -- What settles tell of the full syncs that a store finished is the front of them all, which have numbers of their own.
-use Rattle.std.proofs.Common.{◌≡◌, ℕ, zero, suc, ◌+◌, ◌≤◌, List, [], ◌∷◌, ◌++◌, Option, Some, None, length, map, drop, get_or, set, refl, sym, ap, ◌∙◌, subst, arith, append_assoc, length-append}
+use Rattle.std.proofs.Common.{◌≡◌, ℕ, zero, suc, ◌+◌, ◌≤◌, List, [], ◌∷◌, ◌++◌, Option, Some, None, length, map, drop, get_or, set, refl, sym, ap, ◌∙◌, subst, arith, append_assoc, length-append, Bool}
 use Rattle.std.specs.Prelude.{AllPairs, slice_get}
 use Rattle.std.specs.List.{AllZip}
 use Rattle.std.proofs.lemmas.Nat.{mul-le}
@@ -30,14 +30,15 @@ use Rattle.net_record.specs.declared.phase.Phase.{Phase}
 use Rattle.net_record.specs.declared.record.SettleDone.{SettleDone}
 use Rattle.net_record.specs.Roles.{roles}
 use Rattle.net_record.specs.Kinds.{module_step, store_in}
-use Rattle.net_record.specs.Actors.{new_part, new_actor, store_of, part_step, made_by, actor_after, journal_lengths, actors_after_settle}
+use Rattle.net_record.specs.Actors.{new_part, new_actor, store_of, part_step, made_by, actor_after, entry_counts, actors_after_settle}
 use Rattle.net_record.specs.Answers.{giving_of}
-use Rattle.net_record.specs.Answered.{no_mark}
+use Rattle.net_record.specs.Marks.{no_mark}
 use Rattle.net_record.specs.World.{WorldState, start, waiting, turn, turn_of, turn_by, reader_of, issue, settle, settle_done, greatest_clock}
 use Rattle.net_record.specs.Run.{begin}
 use Rattle.net_record.specs.Syncs.{syncs_told}
 use Rattle.net_record.proofs.Found.{there}
 use Rattle.net_record.proofs.FewTurns.{HasFewTurns}
+use Rattle.net_record.proofs.Shown.{syncs_shown}
 use Rattle.net_record.proofs.Tellers.{Teller, tellers_by, tellers_of, teller_in, teller_at, syncs_of_mark, told_all, settled_teller, tellers_give_all, set_teller}
 
 -- What is kept of a store after so many turns, of whose full syncs settles told these: its numbers are apart, and these
@@ -156,17 +157,17 @@ settle_tells turns syncs more t e h =
       count = ap length all;
     }
 
-pub told_settle : (moment : ℕ) (asked : List ℕ) (w : WorldState) → AreTold w → AreTold (settle moment asked w)
+pub told_settle : (moment : ℕ) (asked : List ℕ) (shows : Bool) (w : WorldState) → AreTold w → AreTold (settle moment asked shows w)
 unfolding settle
-told_settle moment asked w h place =
+told_settle moment asked shows w h place =
     let g = giving_of w.actors asked in
     let clock = greatest_clock w.actors + 1 in
-    let done = settle_done moment (length w.turns) w.actors g.answers in
+    let done = settle_done moment (length w.turns) w.actors shows g.answers in
     let more = (get_or done.nodes place no_mark).syncs in
     let after : teller_at (actors_after_settle clock g.actors) place ≡ told_all (teller_at w.actors place) =
-    settled_teller clock (journal_lengths g.actors) g.actors place
+    settled_teller clock (entry_counts g.actors) g.actors place
     ∙ ap (λ tellers. told_all (teller_in tellers place)) (tellers_give_all (record { actors = w.actors; answers = [] }) asked) in
-    let told = settle_tells (length w.turns) (syncs_told place w.settles) more (teller_at w.actors place) (syncs_of_mark w.actors place) (h place) in
+    let told = settle_tells (length w.turns) (syncs_told place w.settles) more (teller_at w.actors place) (syncs_shown w.actors shows place ∙ syncs_of_mark w.actors place) (h place) in
     subst (λ syncs. IsToldOf (length w.turns) syncs (teller_at (actors_after_settle clock g.actors) place)) (sym (syncs_more place w.settles done))
     (subst (λ t. IsToldOf (length w.turns) (syncs_told place w.settles ++ more) t) (sym after) told)
 

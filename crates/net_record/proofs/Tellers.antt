@@ -11,7 +11,7 @@ use Rattle.net_record.specs.declared.actor.ActorState.{ActorState}
 use Rattle.net_record.specs.Kinds.{store_in}
 use Rattle.net_record.specs.Actors.{actor_at, store_of, finished_by, part_after_settle, actor_after_settle, actor_without_question}
 use Rattle.net_record.specs.Answers.{Giving, give, give_all}
-use Rattle.net_record.specs.Answered.{no_mark}
+use Rattle.net_record.specs.Marks.{no_mark}
 use Rattle.net_record.specs.World.{mark_of_store, marks_of}
 use Rattle.net_record.proofs.Grown.{store_without}
 

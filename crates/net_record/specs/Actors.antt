@@ -1,10 +1,16 @@
 -- The actors: what each is, one turn of each, and what a settle makes of it.
-use Rattle.std.specs.Prelude.{ℕ, zero, suc, ◌-◌, List, [], ◌++◌, length, map, replicate, Option, Some, None, option_map, option_and_then, Bool, ◌&&◌, nat_le, slice_index_or, slice_get}
+use Rattle.std.specs.Prelude.{ℕ, zero, suc, ◌-◌, List, [], ◌++◌, length, map, replicate, Option, Some, None, option_map, option_and_then, Bool, ◌&&◌, nat_le, nat_lt, take, slice_index_or, slice_get, if◌then◌else◌}
 use Rattle.std.specs.Option.{option_map_or}
+use Rattle.or_base.specs.declared.asked.Asked.{Asked}
+use Rattle.or_base.specs.declared.asked.Asked.TheVariants.{Key, Prefix}
+use Rattle.or_base.specs.declared.asked.Told.{Told}
+use Rattle.or_base.specs.declared.asked.Told.TheVariants.{Value, Nothing, Behind}
 use Rattle.or_base.specs.declared.entry.JournalEntry.{JournalEntry}
 use Rattle.or_base.specs.declared.item.Item.{Item}
 use Rattle.or_base.specs.declared.kind.Kind.{Kind}
 use Rattle.or_base.specs.declared.item.Stamped.{Stamped}
+use Rattle.or_base.specs.declared.value.KvValue.{KvValue}
+use Rattle.or_base.specs.Journal.{held_value}
 use Rattle.or_actor.specs.declared.output.Output.{Output}
 use Rattle.or_actor.specs.Steps.{TurnMade, turn_made, finds_nothing}
 use Rattle.kv_store.specs.Store.{StoreState, new_store}
@@ -12,7 +18,7 @@ use Rattle.net_link.specs.Link.{new_link}
 use Rattle.spark_node.specs.Spark.{new_spark}
 use Rattle.link_monitor.specs.LinkMonitor.{new_link_monitor}
 use Rattle.prefix_manager.specs.PrefixManager.{new_prefix_manager}
-use Rattle.decision_core.specs.Decision.{new_decision}
+use Rattle.decision_core.specs.Decision.{DecisionState, new_decision, route_at, route_told}
 use Rattle.fib_core.specs.Fib.{new_fib}
 use Rattle.net_record.specs.declared.role.NodeModule.{NodeModule}
 use Rattle.net_record.specs.declared.role.NodeModule.TheVariants.{Spark as SparkRole, LinkMonitor as LinkMonitorRole, PrefixManager as PrefixManagerRole, Store as StoreRole, Decision as DecisionRole, Fib as FibRole, Desk as DeskRole}
@@ -24,8 +30,10 @@ use Rattle.net_record.specs.declared.part.Part.{Part}
 use Rattle.net_record.specs.declared.part.Part.TheVariants.{Driver, Desk, Module}
 use Rattle.net_record.specs.declared.actor.ActorState.{ActorState}
 use Rattle.net_record.specs.declared.record.AnswerDone.{AnswerDone}
-use Rattle.net_record.specs.Kinds.{module_step, module_may_find, store_in}
-use Rattle.net_record.specs.Desk.{DeskState, new_desk, key_asked, desk_after, desk_may_find, desk_shown, desk_finds, question_answer, without_question, desk_after_settle}
+use Rattle.net_record.specs.declared.desk.Question.{Question}
+use Rattle.net_record.specs.declared.desk.View.{View}
+use Rattle.net_record.specs.Kinds.{module_step, module_may_find, store_in, decision_in, entries_in}
+use Rattle.net_record.specs.Desk.{DeskState, new_desk, asked_in, view_for, desk_after, desk_may_find, desk_shown, desk_finds, without_question, desk_after_settle}
 
 -- ---- what an actor is
 
@@ -37,7 +45,7 @@ node_part kind PrefixManagerRole node setup = Module (PrefixManager (new_prefix_
 node_part kind StoreRole node setup = Module (Store (new_store kind node))
 node_part kind DecisionRole node setup = Module (Decision (new_decision node))
 node_part kind FibRole node setup = Module (Fib (new_fib node))
-node_part kind DeskRole node setup = Desk (new_desk node setup.store)
+node_part kind DeskRole node setup = Desk (new_desk node setup.store setup.decision)
 
 -- what an actor is as it starts
 abbrev pub new_part : Kind → Role → Part
@@ -66,17 +74,18 @@ abbrev pub store_of : Part → Option StoreState
 store_of (Module m) = store_in m
 store_of _ = None
 
--- the entries of a store's journal; whatever is no store has none
+abbrev pub decision_of : Part → Option DecisionState
+decision_of (Module m) = decision_in m
+decision_of _ = None
+
+-- the entries of a store's journal, or those that a Decision took; whatever is neither has none
 abbrev pub entries_of : Part → List JournalEntry
-entries_of part = option_map_or (λ s. s.journal) (store_of part) []
+entries_of (Module m) = entries_in m
+entries_of _ = []
 
 -- how many full syncs that it started were finished, where it is a store
 abbrev pub finished_by : Part → ℕ
 finished_by part = option_map_or (λ s. length s.done) (store_of part) 0
-
--- the length that a desk found last
-abbrev pub last_of : Part → ℕ
-last_of part = option_map_or (λ d. d.last) (desk_of part) 0
 
 -- ---- what a desk finds
 
@@ -92,29 +101,31 @@ is_in_range r at = nat_le r.least at && nat_le at r.most
 abbrev pub no_range : Range
 no_range = record { least = 0; most = 0 }
 
--- of a desk, if it is one, that is asked for a key, if it is: from the length that was found last to that of the store's journal
-abbrev pub range_asked : List ActorState → Option DeskState → Option (List ℕ) → Range
-range_asked actors None asked = no_range
-range_asked actors (Some d) None = no_range
-range_asked actors (Some d) (Some key) = record { least = d.last; most = length (entries_of (actor_at actors d.store).part) }
+-- the view in which a desk looks, if it is one, for what it is asked, if it is
+abbrev pub view_asked : Option DeskState → Option Asked → Option View
+view_asked None asked = None
+view_asked (Some d) None = None
+view_asked (Some d) (Some asked) = Some (view_for d asked)
 
--- the lengths that a turn with an item may find
+-- from what was found last in a view to all entries of the actor that it is of
+abbrev pub range_in : List ActorState → View → Range
+range_in actors v = record { least = v.last; most = length (entries_of (actor_at actors v.owner).part) }
+
+-- how many entries a turn with an item may find: a desk that is asked finds those of a view, and every other turn none
 unfoldable pub range_for : List ActorState → Part → Item → Range
-range_for actors part item = range_asked actors (desk_of part) (key_asked item)
+range_for actors part item = option_map_or (range_in actors) (view_asked (desk_of part) (asked_in item)) no_range
 
--- the stamp of the turn that made a journal so long, by the stamps of its entries; 0 where it is empty
+-- the stamp of the turn that made so many entries, by the stamps of all; 0 where there are none
 abbrev pub made_at : List ℕ → ℕ → ℕ
 made_at stamps zero = 0
 made_at stamps (suc n) = slice_index_or stamps n 0
 
-abbrev pub made_asked : List ActorState → Option DeskState → Option (List ℕ) → ℕ → ℕ
-made_asked actors None asked at = 0
-made_asked actors (Some d) None at = 0
-made_asked actors (Some d) (Some key) at = made_at (actor_at actors d.store).made at
+abbrev pub made_in : List ActorState → ℕ → View → ℕ
+made_in actors at v = made_at (actor_at actors v.owner).made at
 
--- the stamp of the turn that made the length that a turn with an item finds; 0 where it finds none
+-- the stamp of the turn that made as many entries as a turn with an item finds; 0 where it finds none
 unfoldable pub made_for : List ActorState → Part → Item → ℕ → ℕ
-made_for actors part item at = made_asked actors (desk_of part) (key_asked item) at
+made_for actors part item at = option_map_or (made_in actors at) (view_asked (desk_of part) (asked_in item)) 0
 
 -- ---- one turn
 
@@ -159,27 +170,45 @@ outputs_of actor m = (part_step actor.part m.lane m.taken.item m.at).1
 
 -- ---- a settle
 
--- the lengths of the actors' journals, by their numbers
-abbrev pub journal_lengths : List ActorState → List ℕ
-journal_lengths actors = map (λ actor. length (entries_of actor.part)) actors
+-- how many entries actors have, by their numbers
+abbrev pub entry_counts : List ActorState → List ℕ
+entry_counts actors = map (λ actor. length (entries_of actor.part)) actors
 
--- what an actor is after a settle, at which the journals have these lengths: a desk has seen that of its store
+-- what an actor is after a settle, at which actors have so many entries: a desk has seen all of them
 abbrev pub part_after_settle : List ℕ → Part → Part
-part_after_settle lengths Driver = Driver
-part_after_settle lengths (Desk d) = Desk (desk_after_settle (slice_index_or lengths d.store 0) d)
-part_after_settle lengths (Module m) = Module m
+part_after_settle counts Driver = Driver
+part_after_settle counts (Desk d) = Desk (desk_after_settle counts d)
+part_after_settle counts (Module m) = Module m
 
 -- an actor after a settle, which sets its clock and tells of all full syncs that it finished
 abbrev pub actor_after_settle : ℕ → List ℕ → ActorState → ActorState
-actor_after_settle clock lengths actor =
-    record { part = part_after_settle lengths actor.part; clock = clock; told = finished_by actor.part; made = actor.made }
+actor_after_settle clock counts actor =
+    record { part = part_after_settle counts actor.part; clock = clock; told = finished_by actor.part; made = actor.made }
 
 abbrev pub actors_after_settle : ℕ → List ActorState → List ActorState
-actors_after_settle clock actors = map (actor_after_settle clock (journal_lengths actors)) actors
+actors_after_settle clock actors = map (actor_after_settle clock (entry_counts actors)) actors
 
--- the answer to the oldest question of a desk, which the settle reads from its store; whatever is no desk has none
+-- ---- answers
+
+abbrev pub value_told : Option KvValue → Told
+value_told None = Nothing
+value_told (Some value) = Value value
+
+-- what is told by the first so many entries that the owner of a view has: what a store held then, and where a Decision routed then
+abbrev pub told_about : List ActorState → View → ℕ → Asked → Told
+told_about actors v at (Key key) = value_told (held_value (take at (entries_of (actor_at actors v.owner).part)) key)
+told_about actors v at (Prefix prefix) = route_told (option_and_then (λ s. route_at s at prefix) (decision_of (actor_at actors v.owner).part))
+
+-- what is told to a question of a desk: by as many entries as it found, unless the desk had seen more
+unfoldable pub told_to : List ActorState → DeskState → Question → Told
+told_to actors d q = if nat_lt q.at q.seen then Behind q.at else told_about actors (view_for d q.asked) q.at q.asked
+
+unfoldable pub question_answer : List ActorState → DeskState → Question → AnswerDone
+question_answer actors d q = record { node = d.node; asked = q.asked; told = told_to actors d q }
+
+-- the answer to the oldest question of a desk; whatever is no desk has none
 abbrev pub answer_of_desk : List ActorState → DeskState → Option AnswerDone
-answer_of_desk actors d = option_map (question_answer d (entries_of (actor_at actors d.store).part)) (slice_get d.questions 0)
+answer_of_desk actors d = option_map (question_answer actors d) (slice_get d.questions 0)
 
 unfoldable pub answer_of : List ActorState → Part → Option AnswerDone
 answer_of actors part = option_and_then (answer_of_desk actors) (desk_of part)

@@ -1,20 +1,21 @@
 -- The answers of a phase, in the order of its questions.
 use Rattle.std.specs.Prelude.{ℕ, List, [], ◌∷◌, ◌++◌, Option, Some, None, option_to_list, slice_set}
 use Rattle.std.specs.List.{flat_map}
+use Rattle.or_base.specs.declared.asked.Asked.{Asked}
 use Rattle.or_actor.specs.declared.output.Output.{Output}
 use Rattle.or_actor.specs.declared.output.Output.TheVariants.{To}
 use Rattle.net_record.specs.declared.actor.ActorState.{ActorState}
 use Rattle.net_record.specs.declared.record.AnswerDone.{AnswerDone}
-use Rattle.net_record.specs.Desk.{key_asked}
+use Rattle.net_record.specs.Desk.{asked_in}
 use Rattle.net_record.specs.Actors.{actor_at, answer_of, actor_without_question}
 
 -- the actor with this number, if something is asked
-abbrev pub asked_if : ℕ → Option (List ℕ) → List ℕ
+abbrev pub asked_if : ℕ → Option Asked → List ℕ
 asked_if number None = []
-asked_if number (Some key) = number ∷ []
+asked_if number (Some asked) = number ∷ []
 
 abbrev pub desk_asked : Output → List ℕ
-desk_asked (To number item) = asked_if number (key_asked item)
+desk_asked (To number item) = asked_if number (asked_in item)
 
 -- the numbers of the desks that are asked by what the driver sends, in order
 abbrev pub desks_asked : List Output → List ℕ

@@ -37,7 +37,7 @@ is_heavy w = is_too_heavy w.turns w.settles
 abbrev pub settles_within : WorldState → List Phase → Stage
 settles_within w [] = GoesOn (record { world = w; unsettled = [] })
 settles_within w (phase ∷ phases) =
-    let next = settle phase.moment (desks_asked phase.issues) w in
+    let next = settle phase.moment (desks_asked phase.issues) phase.shows_routes w in
     if not (is_drained w) then GoesOn (record { world = w; unsettled = phase ∷ phases })
     else if is_heavy next then Exceeds (length next.settles) next
     else settles_within (begin next phases) phases

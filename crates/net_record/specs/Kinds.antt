@@ -1,6 +1,7 @@
 -- The kinds of modules: what each is made of, and its step. A new kind adds a row to `node_part` or to `new_part`, and to
 -- `module_step`; what a run wants to know of a kind it asks by a projection, in which every other kind has the default.
-use Rattle.std.specs.Prelude.{ℕ, List, Option, Some, None, Bool}
+use Rattle.std.specs.Prelude.{ℕ, List, [], Option, Some, None, Bool}
+use Rattle.or_base.specs.declared.entry.JournalEntry.{JournalEntry}
 use Rattle.or_base.specs.declared.item.Item.{Item}
 use Rattle.or_actor.specs.declared.output.Output.{Output}
 use Rattle.or_actor.specs.Steps.{finds_nothing}
@@ -9,7 +10,7 @@ use Rattle.net_link.specs.Link.{link_step}
 use Rattle.spark_node.specs.Spark.{spark_step}
 use Rattle.link_monitor.specs.LinkMonitor.{link_monitor_step}
 use Rattle.prefix_manager.specs.PrefixManager.{prefix_manager_step}
-use Rattle.decision_core.specs.Decision.{decision_step}
+use Rattle.decision_core.specs.Decision.{DecisionState, decision_step}
 use Rattle.fib_core.specs.Fib.{fib_step}
 use Rattle.net_record.specs.declared.kinds.AnyModule.{AnyModule}
 use Rattle.net_record.specs.declared.kinds.AnyModule.TheVariants.{Spark, LinkMonitor, PrefixManager, Store, Decision, Fib, Link}
@@ -34,3 +35,14 @@ module_may_find m item at = finds_nothing at
 abbrev pub store_in : AnyModule → Option StoreState
 store_in (Store s) = Some s
 store_in _ = None
+
+-- the Decision that it is, if it is one
+abbrev pub decision_in : AnyModule → Option DecisionState
+decision_in (Decision s) = Some s
+decision_in _ = None
+
+-- the entries that it has: the journal of a store, and of a Decision what it took of one
+abbrev pub entries_in : AnyModule → List JournalEntry
+entries_in (Store s) = s.journal
+entries_in (Decision s) = s.taken
+entries_in _ = []

@@ -18,6 +18,6 @@ pub mod Wired
 pub mod Ends
 pub mod Fronts
 pub mod Ports
-pub mod Answered
+pub mod Marks
 pub mod Syncs
 pub mod Tells

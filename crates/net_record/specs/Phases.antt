@@ -9,6 +9,8 @@ use Rattle.or_actor.specs.declared.output.Output.TheVariants.{To}
 use Rattle.net_laboratory.specs.declared.declared.LinkDecl.{LinkDecl}
 use Rattle.net_laboratory.specs.declared.command.Command.{Command}
 use Rattle.net_laboratory.specs.declared.command.Command.TheVariants.{Settle, Tick, Set, Own, Disown, Sync, Restart, Up, Down, Script, Get, Drain, LinkDrain, Metric, Advertise, Withdraw, Aggregate, Ask}
+use Rattle.net_laboratory.specs.declared.show.Show.{Show}
+use Rattle.net_laboratory.specs.declared.show.Show.TheVariants as show
 use Rattle.net_laboratory.specs.Scenario.{Laboratory}
 use Rattle.net_laboratory.specs.Amounts.{claims_of}
 use Rattle.net_record.specs.declared.role.NodeModule.{NodeModule}
@@ -76,7 +78,7 @@ to_module all m node item = To (module_number all m node) item ∷ []
 abbrev pub to_link : List Role → ℕ → Item → List Output
 to_link all link item = To (link_number all link) item ∷ []
 
--- What the driver sends for a command. Those with nothing are in no scenario that the program runs yet; a settle ends the phase.
+-- What the driver sends for a command. A settle ends the phase.
 unfoldable pub issues_of : List Role → Command → List Output
 issues_of all (Settle rounds show) = []
 issues_of all (Tick to) = ticks all to
@@ -94,19 +96,26 @@ issues_of all (LinkDrain node link on) = to_module all LinkMonitor node (item.Li
 issues_of all (Metric node link metric) = to_module all LinkMonitor node (item.Metric link metric)
 issues_of all (Advertise node entry) = to_module all PrefixManager node (item.Advertise entry)
 issues_of all (Withdraw node prefix) = to_module all PrefixManager node (item.Withdraw prefix)
-issues_of all (Aggregate node prefix least) = []
-issues_of all (Ask node prefix) = []
+issues_of all (Aggregate node prefix least) = to_module all PrefixManager node (item.Aggregate prefix least)
+issues_of all (Ask node prefix) = to_module all Desk node (item.Ask prefix)
 
 -- the moment after a command: the one that it brings, or the one before it
 abbrev pub moment_after : ℕ → Command → ℕ
 moment_after moment command = unwrap_or (claims_of command).moment moment
+
+-- what a settle shows besides its line are routes too
+abbrev pub shows_routes : Show → Bool
+shows_routes show.Both = true
+shows_routes show.Stores = false
+shows_routes show.Routes = true
+shows_routes show.Nothing = false
 
 -- The phases of commands, where the last tick so far was to this moment and the driver has these items for the first
 -- phase already. A phase is the commands up to and with a settle.
 abbrev pub phases_from : List Role → ℕ → List Output → List Command → List Phase
 phases_from all moment issues [] = []
 phases_from all moment issues (Settle rounds show ∷ commands) =
-    record { issues = issues; rounds = rounds; moment = moment } ∷ phases_from all moment [] commands
+    record { issues = issues; rounds = rounds; moment = moment; shows_routes = shows_routes show } ∷ phases_from all moment [] commands
 phases_from all moment issues (command ∷ commands) =
     phases_from all (moment_after moment command) (issues ++ issues_of all command) commands
 

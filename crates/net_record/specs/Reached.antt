@@ -18,7 +18,7 @@ pub data IsReached (lab : Laboratory) : WorldState → List Phase → Type 0 whe
   turns : (w : WorldState) (phase : Phase) (later : List Phase) (t : Turn) → IsReached lab w (phase ∷ later) → is_legal w t ≡ true
       → IsReached lab (turn w t.lane t.at) (phase ∷ later)
   settles : (w : WorldState) (phase : Phase) (later : List Phase) → IsReached lab w (phase ∷ later) → is_drained w ≡ true
-      → IsReached lab (begin (settle phase.moment (desks_asked phase.issues) w) later) later
+      → IsReached lab (begin (settle phase.moment (desks_asked phase.issues) phase.shows_routes w) later) later
 
 -- The record is that of a run of the laboratory as far as it came, under some legal schedule of no more turns than the budget allows.
 pub record IsOfARun (lab : Laboratory) (done : Record) : Type 0 where

@@ -1,7 +1,7 @@
 -- Which actors a laboratory has: the driver, then the modules of each node, then the links.
 use Rattle.std.specs.Prelude.{ℕ, ◌+◌, ◌*◌, List, [], ◌∷◌, ◌++◌, length, map, Option, Bool, false, ◌&&◌, ◌==◌, if◌then◌else◌}
 use Rattle.std.specs.Str.{bytes_eq}
-use Rattle.std.specs.List.{flat_map, enumerate_from, position_or_len}
+use Rattle.std.specs.List.{flat_map, enumerate_from, list_any, position_or_len}
 use Rattle.or_base.specs.declared.kind.Kind.{Kind}
 use Rattle.or_base.specs.declared.kind.Kind.TheVariants.{Stores, Full}
 use Rattle.net_laboratory.specs.declared.declared.NodeDecl.{NodeDecl}
@@ -40,6 +40,11 @@ first_place test all = position_or_len test all
 abbrev pub store_number : List NodeModule → ℕ → ℕ
 store_number modules place = 1 + place * length modules + first_place (is_same_module Store) modules
 
+-- that of its Decision; where nodes have none it is the driver's, which has no entries
+abbrev pub decision_number : List NodeModule → ℕ → ℕ
+decision_number modules place =
+    if list_any (is_same_module Decision) modules then 1 + place * length modules + first_place (is_same_module Decision) modules else 0
+
 -- the end of a link, which is given with its number, at the node with this name, if it has one there
 abbrev pub end_at : List ℕ → ℕ × LinkDecl → List LinkEnd
 end_at name link =
@@ -54,7 +59,10 @@ ends_at links name = flat_map (end_at name) (enumerate_from 0 links)
 -- the modules of a node, which is given with its place among the nodes; its records have this lifetime
 abbrev pub node_roles : List NodeModule → List LinkDecl → Option ℕ → ℕ × NodeDecl → List Role
 node_roles modules links ttl node =
-    map (λ m. Node m node.1.name (record { store = store_number modules node.0; ends = ends_at links node.1.name; ttl = ttl })) modules
+    map
+    (λ m. Node m node.1.name
+    (record { store = store_number modules node.0; decision = decision_number modules node.0; ends = ends_at links node.1.name; ttl = ttl }))
+    modules
 
 -- a link, which is given with its number
 abbrev pub link_role : ℕ × LinkDecl → Role
@@ -63,6 +71,9 @@ link_role link = Link link.0 link.1.a link.1.b
 -- what the actors of a laboratory are, in the order of their numbers
 abbrev pub roles : Laboratory → List Role
 roles lab = Driver ∷ (flat_map (node_roles (modules_of lab.kind) lab.links lab.ttl) (enumerate_from 0 lab.nodes) ++ map link_role (enumerate_from 0 lab.links))
+
+abbrev pub node_names : Laboratory → List (List ℕ)
+node_names lab = map (λ node. node.name) lab.nodes
 
 -- a node has at most so many modules
 abbrev pub most_modules : ℕ

@@ -49,7 +49,7 @@ phase_of m phase = rounds_of (record { world = issue m.world phase.issues; marks
 
 -- what a settle makes of the rounds of a phase
 abbrev pub settle_after : Phase → Marked → Marked
-settle_after phase m = record { world = settle phase.moment (desks_asked phase.issues) m.world; marks = m.marks }
+settle_after phase m = record { world = settle phase.moment (desks_asked phase.issues) phase.shows_routes m.world; marks = m.marks }
 
 -- The rounds of phases, which are given with their numbers. A phase is unsettled where an item still waits after its last round or
 -- the budget is exceeded, also by its settle, and nothing is done after it.

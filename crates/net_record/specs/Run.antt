@@ -23,7 +23,7 @@ begin w (phase ∷ phases) = issue w phase.issues
 abbrev pub advance : WorldState → List Phase → Progress
 advance w [] = record { world = w; unsettled = [] }
 advance w (phase ∷ phases) =
-    if is_drained w then advance (begin (settle phase.moment (desks_asked phase.issues) w) phases) phases else record { world = w; unsettled = phase ∷ phases }
+    if is_drained w then advance (begin (settle phase.moment (desks_asked phase.issues) phase.shows_routes w) phases) phases else record { world = w; unsettled = phase ∷ phases }
 
 -- A turn is legal where an item waits on its lane and its length is one that it may find: only a desk finds a length, and
 -- that of every other turn is 0.

@@ -6,7 +6,6 @@ use Rattle.net_record.specs.declared.phase.Phase.{Phase}
 use Rattle.net_record.specs.declared.record.Record.{Record}
 use Rattle.net_record.specs.declared.record.SettleDone.{SettleDone}
 use Rattle.net_record.specs.Answers.{desks_asked, giving_of}
-use Rattle.net_record.specs.Answered.{AreAnswered, AreCurrent, node_names}
 use Rattle.net_record.specs.Fronts.{fronts}
 use Rattle.net_record.specs.Reached.{IsReached, IsOfARun}
 use Rattle.net_record.specs.Records.{journals_of}
@@ -23,16 +22,13 @@ pub record IsToldAtSettle (lab : Laboratory) (done : Record) (before : List Sett
   pub drained : is_drained world ≡ true
   pub settles : world.settles ≡ before
   pub turns : world.turns ≡ take s.turns done.turns
-  pub tells : s ≡ settle_done phase.moment (length world.turns) world.actors (giving_of world.actors (desks_asked phase.issues)).answers
+  pub tells : s ≡ settle_done phase.moment (length world.turns) world.actors phase.shows_routes (giving_of world.actors (desks_asked phase.issues)).answers
   pub stores : journals_of world.actors ≡ fronts s.nodes done.journals
 
--- what the settles of a record tell of stores, of answers and of finished full syncs
+-- what the settles of a record tell of stores and of finished full syncs
 pub record RecordTells (lab : Laboratory) (done : Record) : Type 0 where
   -- each settle tells what was there
   pub settles : (before later : List SettleDone) (s : SettleDone) → done.settles ≡ before ++ s ∷ later → IsToldAtSettle lab done before s
-  -- each answer is what the first entries of its node's journal tell, and no desk was behind
-  pub answers : AreAnswered (node_names lab) done.settles done.journals
-  pub current : AreCurrent done.settles
   -- no two full syncs of one store that are told as finished have one number
   pub syncs : (place : ℕ) → AllPairs HaveOwnNumbers (syncs_told place done.settles)
 

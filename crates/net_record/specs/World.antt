@@ -1,14 +1,16 @@
 -- The world: the actors and the lanes among them, and what a turn, the issues of a phase and a settle make of it.
-use Rattle.std.specs.Prelude.{ℕ, ◌+◌, max, List, [], ◌∷◌, ◌++◌, length, drop, map, Option, Some, None, Bool, true, false, slice_get, slice_set, slice_index_or, replicate}
+use Rattle.std.specs.Prelude.{ℕ, ◌+◌, max, List, [], ◌∷◌, ◌++◌, length, drop, map, Option, Some, None, option_map, option_to_list, Bool, true, false, slice_get, slice_set, slice_index_or, replicate, if◌then◌else◌}
 use Rattle.std.specs.List.{list_all, flat_map}
 use Rattle.std.specs.Option.{option_map_or}
 use Rattle.or_base.specs.declared.item.Stamped.{Stamped}
 use Rattle.or_base.specs.declared.kind.Kind.{Kind}
+use Rattle.or_base.specs.declared.route.Route.{Route}
 use Rattle.or_base.specs.TurnDone.{TurnDone}
 use Rattle.or_actor.specs.declared.output.Output.{Output}
 use Rattle.or_actor.specs.declared.output.Output.TheVariants.{To}
 use Rattle.or_actor.specs.Steps.{TurnMade, turn_done}
 use Rattle.kv_store.specs.Store.{StoreState}
+use Rattle.decision_core.specs.Decision.{routes_of}
 use Rattle.net_laboratory.specs.Scenario.{Laboratory}
 use Rattle.net_record.specs.declared.role.Role.{Role}
 use Rattle.net_record.specs.declared.wire.Wire.{Wire}
@@ -18,7 +20,7 @@ use Rattle.net_record.specs.declared.record.NodeMark.{NodeMark}
 use Rattle.net_record.specs.declared.record.SettleDone.{SettleDone}
 use Rattle.net_record.specs.Roles.{roles}
 use Rattle.net_record.specs.Wires.{wires, lane_of}
-use Rattle.net_record.specs.Actors.{new_actor, store_of, Range, no_range, range_for, made_by, actor_after, outputs_of, actors_after_settle}
+use Rattle.net_record.specs.Actors.{new_actor, store_of, decision_of, Range, no_range, range_for, made_by, actor_after, outputs_of, actors_after_settle}
 use Rattle.net_record.specs.Answers.{giving_of}
 
 -- The lanes and, for each, the items that wait on it, the oldest first; the actors; the turns and the settles done.
@@ -121,7 +123,7 @@ greatest_clock [] = 0
 greatest_clock (actor ∷ actors) = max actor.clock (greatest_clock actors)
 
 -- What a settle tells of a store that told of so many finished full syncs before: the length of its journal, its count of stale
--- messages, and the full syncs that it started and that were finished since then. No route is made yet.
+-- messages, and the full syncs that it started and that were finished since then. Routes are told besides, and Fib programs none yet.
 abbrev pub mark_of_store : ℕ → StoreState → List NodeMark
 mark_of_store told s =
     record { entries = length s.journal; stale = s.stale; syncs = drop told s.done; routes = []; fib_dirty = false; fib_routes = 0 } ∷ []
@@ -133,19 +135,37 @@ mark_of actor = option_map_or (mark_of_store actor.told) (store_of actor.part) [
 abbrev pub marks_of : List ActorState → List NodeMark
 marks_of actors = flat_map mark_of actors
 
--- what a settle at a moment tells of actors after so many turns, with these answers
-abbrev pub settle_done : ℕ → ℕ → List ActorState → List AnswerDone → SettleDone
-settle_done moment count actors answers = record { turns = count; moment = moment; nodes = marks_of actors; answers = answers }
+-- the routes of an actor that is a Decision
+abbrev pub routes_told : ActorState → List (List Route)
+routes_told actor = option_to_list (option_map (λ s. map (λ e. e.1) (routes_of s)) (decision_of actor.part))
 
--- A phase ends at a moment, in which these desks were asked: the settle is recorded, with an answer of each in this order. Every
--- clock becomes one more than the greatest, and every desk has seen its store's journal.
-unfoldable pub settle : ℕ → List ℕ → WorldState → WorldState
-settle moment asked w =
+-- those of each node that has a Decision
+abbrev pub all_routes : List ActorState → List (List Route)
+all_routes actors = flat_map routes_told actors
+
+-- the marks of nodes with the routes of each; a node without a Decision has none
+abbrev pub with_routes : List NodeMark → List (List Route) → List NodeMark
+with_routes [] routes = []
+with_routes (mark ∷ marks) [] = mark ∷ with_routes marks []
+with_routes (mark ∷ marks) (routes ∷ others) = record mark { routes = routes } ∷ with_routes marks others
+
+-- what a settle tells of the nodes; their routes too, where it shows routes
+unfoldable pub nodes_told : List ActorState → Bool → List NodeMark
+nodes_told actors shows = if shows then with_routes (marks_of actors) (all_routes actors) else marks_of actors
+
+-- what a settle at a moment tells of actors after so many turns, with these answers
+abbrev pub settle_done : ℕ → ℕ → List ActorState → Bool → List AnswerDone → SettleDone
+settle_done moment count actors shows answers = record { turns = count; moment = moment; nodes = nodes_told actors shows; answers = answers }
+
+-- A phase ends at a moment, in which these desks were asked: the settle is recorded, with an answer of each in this order, and with
+-- routes where it shows them. Every clock becomes one more than the greatest, and every desk has seen its store's journal.
+unfoldable pub settle : ℕ → List ℕ → Bool → WorldState → WorldState
+settle moment asked shows w =
     let giving = giving_of w.actors asked in
     record {
       wires = w.wires;
       lanes = w.lanes;
       actors = actors_after_settle (greatest_clock w.actors + 1) giving.actors;
       turns = w.turns;
-      settles = w.settles ++ settle_done moment (length w.turns) w.actors giving.answers ∷ [];
+      settles = w.settles ++ settle_done moment (length w.turns) w.actors shows giving.answers ∷ [];
     }

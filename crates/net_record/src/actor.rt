@@ -8,7 +8,7 @@ use or_base::{Kind, NoMemory, Stamped};
 use std::alloc::Global;
 
 /// An actor: what it is; its clock, which is the stamp of its last turn or what the last settle made of it; of how many
-/// finished full syncs settles have told, where it is a store; and the stamps of the turns that made its journal's entries.
+/// finished full syncs settles have told, where it is a store; and the stamps of the turns that made its entries.
 #[derive(Drop)]
 pub struct ActorState {
     pub part: Part,
@@ -36,8 +36,8 @@ impl ActorState {
         })
     }
 
-    /// One turn with an item of a lane, in which a desk finds a journal of the length `at`, which the turn with the stamp
-    /// `found` made. What it sends goes into `out`, and the answer is its stamp.
+    /// One turn with an item of a lane, in which a desk finds `at` entries, the last of which the turn with the stamp `found`
+    /// made. What it sends goes into `out`, and the answer is its stamp.
     #[tactic(auto, unfolding(crate::specs::Actors::actor_after, crate::specs::Actors::outputs_of))]
     pub fn turn(
         &mut self,
@@ -68,14 +68,14 @@ impl ActorState {
         Ok(stamp)
     }
 
-    /// A settle, at which the journals of the actors have these lengths, sets its clock and tells of all full syncs that it
+    /// A settle, at which actors have so many entries, by their numbers, sets its clock and tells of all full syncs that it
     /// finished. It takes no memory.
-    pub fn settle(&mut self, clock: u64, lengths: &[u64])
-        requires { (n : _) → slice_index_or lengths.now n 0 < 2 ^ 64 - 1 }
-        ensures { self.new ≡ actor_after_settle clock lengths.now self.old }
+    pub fn settle(&mut self, clock: u64, counts: &[u64])
+        requires { (n : _) → slice_index_or counts.now n 0 < 2 ^ 64 - 1 }
+        ensures { self.new ≡ actor_after_settle clock counts.now self.old }
     {
         self.told = self.part.finished_syncs();
-        self.part.settle(lengths);
+        self.part.settle(counts);
         self.clock = clock;
     }
 

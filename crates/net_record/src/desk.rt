@@ -1,29 +1,33 @@
-ghost use Rattle.std.specs.Prelude.{◌≡◌, ◌<◌, ◌-◌, ◌^◌, Some, slice_get, take, option_map, IsTrue, IfOk, OnOk};
-ghost use Rattle.or_base.specs.Journal.{held_value};
-ghost use Rattle.net_record.specs.Desk.{told_to};
+ghost use Rattle.std.specs.Prelude.{◌≡◌, ◌<◌, ◌-◌, ◌^◌, Some, option_map, slice_get, slice_index_or, IsTrue, IfOk, OnOk};
 
-use crate::record::AnswerDone;
-use or_base::{Asked, Item, JournalEntry, Key, KvValue, Name, NoMemory, Told, holds};
+use or_base::{Asked, Item, Name, NoMemory};
 use std::alloc::Global;
 use std::collections::VecDeque;
 use std::marker::Model;
 
-/// A question that no settle has answered: the key, the length of the store's journal that its turn found, and the greatest
-/// length that the desk had seen before.
+/// How a desk looks at an actor that has entries: the actor's number, and how many entries the desk found last.
+#[derive(Clone, Copy, Debug, PartialEq, Eq)]
+pub struct View {
+    pub owner: u32,
+    pub last: u64,
+}
+
+/// A question that no settle has answered: what was asked, the number of entries that its turn found, and the greatest
+/// number that the desk had seen before.
 #[derive(Drop)]
 pub struct Question {
-    pub key: Key,
+    pub asked: Asked,
     pub at: u64,
     pub seen: u64,
 }
 
-/// A node's desk, which is asked what the node's store holds.
+/// A node's desk, which is asked what the node's store holds and where its Decision routes prefixes.
 #[derive(Drop)]
 pub struct Desk {
     node: Name,
-    store: u32,
     seen: u64,
-    last: u64,
+    store: View,
+    decision: View,
     questions: VecDeque<Question>,
 }
 
@@ -33,102 +37,124 @@ impl Model for Desk {
 
     ghost Value = { DeskState };
 
-    ghost view = { λ d. record { node = d.node; store = d.store; seen = d.seen; last = d.last; questions = d.questions.items } };
+    ghost view = { λ d. record { node = d.node; seen = d.seen; store = d.store; decision = d.decision; questions = d.questions.items } };
 
-    ghost invariant = { λ d. d.last < 2 ^ 64 - 1 };
+    ghost invariant = { λ d. (d.store.last < 2 ^ 64 - 1) × (d.decision.last < 2 ^ 64 - 1) };
 }
 
-/// The first entries of a journal, `at` of them or all.
-fn first_entries(journal: &[JournalEntry], at: u64) -> &[JournalEntry]
-    ensures { result.now ≡ take at journal.now }
-{
-    if at < journal.len() as u64 {
-        &journal[..at as usize]
-    } else {
-        journal
-    }
-}
+impl View {
+    ghost use Rattle.net_record.specs.Desk.{new_view, with_last, whole_view};
 
-/// The value that the first entries of a journal hold under the key, `at` of them.
-fn held_at(journal: &[JournalEntry], at: u64, key: &Key) -> Result<Option<KvValue>, NoMemory>
-    ensures { IfOk result (λ held. held ≡ held_value (take at journal.now) key.now) }
-{
-    let entries = first_entries(journal, at);
-    match holds(entries, key) {
-        Some(held) => Ok(Some(held.value.copied()?)),
-        None => Ok(None),
+    /// A view of an actor in which nothing was found yet.
+    fn new(owner: u32) -> View
+        ensures { result ≡ new_view owner }
+    {
+        View { owner, last: 0 }
     }
-}
 
-/// What is told to a question by the journal of its node's store.
-#[tactic(auto, unfolding(crate::specs::Desk::told_to))]
-fn told_to(journal: &[JournalEntry], question: &Question) -> Result<Told, NoMemory>
-    ensures { IfOk result (λ told. told ≡ told_to journal.now question.now) }
-{
-    if question.at < question.seen {
-        return Ok(Told::Behind(question.at));
+    /// The same view, in which so many entries were found.
+    fn with_last(self, at: u64) -> View
+        ensures { result ≡ with_last self at }
+    {
+        View {
+            owner: self.owner,
+            last: at,
+        }
     }
-    match held_at(journal, question.at, &question.key)? {
-        Some(value) => Ok(Told::Value(value)),
-        None => Ok(Told::Nothing),
+
+    /// The same view of actors that have so many entries, by their numbers, in which all was found.
+    fn whole(self, counts: &[u64]) -> View
+        ensures { result ≡ whole_view counts.now self }
+    {
+        match counts.get(self.owner as usize) {
+            Some(count) => self.with_last(*count),
+            None => self.with_last(0),
+        }
     }
 }
 
 impl Desk {
-    ghost use Rattle.net_record.specs.Desk.{new_desk, with_question, desk_after, desk_finds, desk_may_find, desk_shown, desk_after_settle, question_answer, without_question};
+    ghost use Rattle.net_record.specs.Desk.{new_desk, view_for, with_found, with_open, with_question, desk_after, desk_finds, desk_may_find, desk_shown, desk_after_settle, without_question};
 
-    /// The desk of a node as it starts, where the node's store is the actor with this number. It takes no memory.
-    pub(crate) fn new(alloc: Global, node: Name, store: u32) -> Desk
-        ensures { result ≡ new_desk node store }
+    /// The desk of a node as it starts, where the node's store and its Decision are the actors with these numbers. It takes no
+    /// memory.
+    pub(crate) fn new(alloc: Global, node: Name, store: u32, decision: u32) -> Desk
+        ensures { result ≡ new_desk node store decision }
     {
         Desk {
             node,
-            store,
             seen: 0,
-            last: 0,
+            store: View::new(store),
+            decision: View::new(decision),
             questions: VecDeque::new(alloc),
         }
     }
 
-    /// The actor number of its node's store. It takes no memory.
-    pub(crate) fn store(&self) -> u32
+    /// Its node's name.
+    pub(crate) fn node(&self) -> &Name
+        ensures { result.now ≡ self.now.node }
+    {
+        &self.node
+    }
+
+    /// Its view of the node's store.
+    pub(crate) fn store(&self) -> View
         ensures { result ≡ self.now.store }
     {
         self.store
     }
 
-    /// The length that it found last. It takes no memory.
-    pub(crate) fn last(&self) -> u64
-        ensures { result ≡ self.now.last }
+    /// Its view of the node's Decision.
+    pub(crate) fn decision(&self) -> View
+        ensures { result ≡ self.now.decision }
     {
-        self.last
+        self.decision
     }
 
-    /// A journal of this length is shown to it, before it takes the item, so that a question finds it. It takes no memory.
+    /// The view in which it looks for what it is asked.
+    pub(crate) fn view_for(&self, asked: &Asked) -> View
+        ensures { result ≡ view_for self.now asked.now }
+    {
+        match asked {
+            Asked::Key(_) => self.store,
+            Asked::Prefix(_) => self.decision,
+        }
+    }
+
+    /// Its oldest question, if there is one.
+    pub(crate) fn oldest(&self) -> Option<&Question>
+        ensures { option_map (λ q. q.now) result ≡ slice_get self.now.questions 0 }
+    {
+        self.questions.front()
+    }
+
+    /// So many entries are shown to it, before it takes the item, so that a question finds them. It takes no memory.
     #[tactic(auto, unfolding(crate::specs::Desk::desk_shown))]
     pub(crate) fn show(&mut self, item: &Item, at: u64)
         requires { at < 2 ^ 64 - 1 }
         ensures { self.new ≡ desk_shown self.old item.now at }
     {
-        if matches!(item, Item::Get { .. }) {
-            self.last = at;
+        match item {
+            Item::Get { .. } => self.store = self.store.with_last(at),
+            Item::Ask { .. } => self.decision = self.decision.with_last(at),
+            _other => {}
         }
     }
 
-    /// It is asked for the key.
-    fn ask(&mut self, key: Key) -> Result<(), NoMemory>
-        ensures { OnOk result (self.new ≡ with_question self.old (Some key) self.old.last) }
+    /// It is asked, and found so many entries.
+    fn open(&mut self, asked: Asked, at: u64) -> Result<(), NoMemory>
+        ensures { OnOk result (self.new ≡ with_open self.old asked at) }
     {
         self.questions.push_back(Question {
-            key,
-            at: self.last,
+            asked,
+            at,
             seen: self.seen,
         })?;
-        self.seen = self.seen.max(self.last);
+        self.seen = self.seen.max(at);
         Ok(())
     }
 
-    /// One turn, which answers the length that it found. An item that asks nothing changes nothing, and finds 0.
+    /// One turn, which answers the number of entries that it found. An item that asks nothing changes nothing, and finds 0.
     #[tactic(auto, unfolding(crate::specs::Desk::desk_after, crate::specs::Desk::desk_finds, crate::specs::Desk::desk_may_find))]
     pub(crate) fn take(&mut self, item: Item) -> Result<u64, NoMemory>
         ensures found { IfOk result (λ at. at ≡ desk_finds self.old item) }
@@ -138,36 +164,27 @@ impl Desk {
     {
         match item {
             Item::Get { key } => {
-                let at = self.last;
-                self.ask(key)?;
+                let at = self.store.last;
+                self.open(Asked::Key(key), at)?;
+                Ok(at)
+            }
+            Item::Ask { prefix } => {
+                let at = self.decision.last;
+                self.open(Asked::Prefix(prefix), at)?;
                 Ok(at)
             }
             _other => Ok(0),
         }
     }
 
-    /// A settle lets it see a journal of this length. It takes no memory.
-    pub(crate) fn settle(&mut self, entries: u64)
-        requires { entries < 2 ^ 64 - 1 }
-        ensures { self.new ≡ desk_after_settle entries self.old }
+    /// A settle, at which actors have so many entries, by their numbers. It takes no memory.
+    pub(crate) fn settle(&mut self, counts: &[u64])
+        requires { (n : _) → slice_index_or counts.now n 0 < 2 ^ 64 - 1 }
+        ensures { self.new ≡ desk_after_settle counts.now self.old }
     {
-        self.seen = entries;
-        self.last = entries;
-    }
-
-    /// The answer to its oldest question, if there is one, by the journal of its node's store.
-    #[tactic(auto, unfolding(crate::specs::Desk::question_answer))]
-    pub(crate) fn answer(&self, journal: &[JournalEntry]) -> Result<Option<AnswerDone>, NoMemory>
-        ensures { IfOk result (λ answer. answer ≡ option_map (question_answer self.now journal.now) (slice_get self.now.questions 0)) }
-    {
-        let Some(question) = self.questions.front() else {
-            return Ok(None);
-        };
-        Ok(Some(AnswerDone {
-            node: self.node.copied()?,
-            asked: Asked::Key(question.key.copied()?),
-            told: told_to(journal, question)?,
-        }))
+        self.store = self.store.whole(counts);
+        self.decision = self.decision.whole(counts);
+        self.seen = self.store.last;
     }
 
     /// Forgets its oldest question, if there is one. It takes no memory.

@@ -1,7 +1,7 @@
 //! The one room for the kinds of modules.
 
-ghost use Rattle.std.specs.Prelude.{◌≡◌, option_map};
-ghost use Rattle.net_record.specs.Kinds.{store_in};
+ghost use Rattle.std.specs.Prelude.{◌≡◌, ◌<◌, ◌^◌, length, option_map};
+ghost use Rattle.net_record.specs.Kinds.{store_in, decision_in, entries_in};
 
 use decision_core::DecisionModule;
 use fib_core::FibModule;
@@ -40,6 +40,28 @@ impl AnyModule {
         match self {
             AnyModule::Store(store) => Some(store),
             _other => None,
+        }
+    }
+
+    /// The Decision that it is, if it is one. It takes no memory.
+    pub fn decision(&self) -> Option<&DecisionModule>
+        ensures { option_map (λ s. s.now) result ≡ decision_in self.now }
+    {
+        match self {
+            AnyModule::Decision(decision) => Some(decision),
+            _other => None,
+        }
+    }
+
+    /// The entries that it has: the journal of a store, and of a Decision what it took of one. It takes no memory.
+    pub(crate) fn entries(&self) -> &[JournalEntry]
+        ensures entries { result.now ≡ entries_in self.now }
+        ensures small { length result.now < 2 ^ 63 }
+    {
+        match self {
+            AnyModule::Store(store) => store.table().journal(),
+            AnyModule::Decision(decision) => decision.entries(),
+            _other => &[],
         }
     }
 

@@ -43,19 +43,19 @@ mod wiring;
 pub use actor::ActorState;
 pub use answers::desks_asked;
 pub use budget::MOST_WEIGHT;
-pub use desk::{Desk, Question};
+pub use desk::{Desk, Question, View};
 pub use kinds::AnyModule;
 pub use numbering::{link_number, module_number, roles};
 pub use part::Part;
 pub use phase::Phase;
-pub use phasing::phases;
+pub use phasing::{phases, shows_routes};
 pub use ports::{Port, Wiring};
 pub use questions::{answer_of, is_in_range, is_question, longest, made_for};
 pub use record::{AnswerDone, NodeMark, Record, SettleDone};
 pub use role::{NodeModule, NodeSetup, Role};
 pub use schedule::schedule_of;
 pub use stamps::Stamps;
-pub use stores::{journals_of, marks_of};
+pub use stores::{journals_of, nodes_told};
 pub use weight::{
     BARE_ITEM_WEIGHT, BARE_KEY_WEIGHT, BARE_ROUTE_WEIGHT, HOP_WEIGHT, NAME_WEIGHT, PREFIX_WEIGHT,
     add_item, add_settle,
@@ -106,9 +106,8 @@ pub fn given_is_reached()
 {}
 
 /// In every record of a run, under any legal schedule: each settle tells what was there, and the entries that it tells of are
-/// the first of the journals that the record has; each answer is what the first entries of its node's journal tell, no
-/// fewer of them than the settle before told of, and no desk was behind; and no two full syncs of one store that settles
-/// tell of as finished have the same number.
+/// the first of the journals that the record has; and no two full syncs of one store that settles tell of as finished have
+/// the same number.
 pub fn runs_tell()
     ensures { RunsTell }
 {}

@@ -1,10 +1,10 @@
 ghost use Rattle.std.specs.Prelude.{◌≡◌, ◌+◌, ◌*◌, ◌≤◌, ◌<◌, ◌^◌, ◌++◌, All, length, map, vec_len, IfOk, OnOk};
-ghost use Rattle.std.specs.List.{flat_map, enumerate_from};
+ghost use Rattle.std.specs.List.{flat_map, enumerate_from, list_any};
 ghost use Rattle.or_actor.specs.Fits.{link_number_end};
 ghost use Rattle.net_laboratory.specs.Limits.{most_nodes, most_links};
-ghost use Rattle.net_record.specs.Roles.{modules_of, kind_number, is_same_module, first_place, store_number, end_at, ends_at, node_roles, link_role, roles, most_modules, most_actors, is_module, is_link_numbered, module_number, link_number};
-ghost use Rattle.net_record.specs.declared.role.NodeModule.TheVariants.{Store};
+ghost use Rattle.net_record.specs.Roles.{modules_of, kind_number, is_same_module, first_place, store_number, decision_number, end_at, ends_at, node_roles, link_role, roles, most_modules, most_actors, is_module, is_link_numbered, module_number, link_number};
 ghost use Rattle.net_record.specs.Small.{HasSmallNumber};
+ghost use Rattle.net_record.specs.declared.role.NodeModule.TheVariants.{Decision};
 
 use crate::role::{NodeModule, NodeSetup, Role};
 use net_laboratory::{Kind, LinkDecl, NodeDecl, Scenario};
@@ -58,17 +58,49 @@ fn is_same_module(module_: NodeModule, other: NodeModule) -> bool
     kind_number(module_) == kind_number(other)
 }
 
-/// The place of the store among the modules of a node.
-fn store_place(modules: &[NodeModule]) -> usize
-    ensures place { result ≡ first_place (is_same_module Store) modules.now }
+/// The place of the first such module among those of a node; where there is none, how many there are.
+fn first_place(searched: NodeModule, modules: &[NodeModule]) -> usize
+    ensures place { result ≡ first_place (is_same_module searched) modules.now }
     ensures within { result ≤ length modules.now }
 {
     for (place, module_) in modules.iter().enumerate() {
-        if is_same_module(NodeModule::Store, *module_) {
+        if is_same_module(searched, *module_) {
             return place;
         }
     }
     modules.len()
+}
+
+/// The actor number of the store of a node, which is named by its place among the nodes.
+fn store_number(modules: &[NodeModule], place: usize) -> u32
+    requires few { length modules.now ≤ most_modules }
+    requires place { place < most_nodes }
+    ensures { result ≡ store_number modules.now place }
+{
+    let number = 1 + place * modules.len() + first_place(NodeModule::Store, modules);
+    number as u32
+}
+
+/// One of these modules is a Decision.
+fn has_decision(modules: &[NodeModule]) -> bool
+    ensures { result ≡ list_any (is_same_module Decision) modules.now }
+{
+    modules
+        .iter()
+        .any(|module_| is_same_module(NodeModule::Decision, *module_))
+}
+
+/// That of its Decision; where nodes have none it is the driver's.
+fn decision_number(modules: &[NodeModule], place: usize) -> u32
+    requires few { length modules.now ≤ most_modules }
+    requires place { place < most_nodes }
+    ensures { result ≡ decision_number modules.now place }
+{
+    if !has_decision(modules) {
+        return 0;
+    }
+    let number = 1 + place * modules.len() + first_place(NodeModule::Decision, modules);
+    number as u32
 }
 
 /// Adds the end of a link, which is given with its number, at the node with this name, if it has one there.
@@ -131,11 +163,11 @@ fn add_node(
     ensures len { OnOk result (vec_len all.new ≡ vec_len all.old + length modules.now) }
     ensures small { All HasSmallNumber all.old.items → OnOk result (All HasSmallNumber all.new.items) }
 {
-    let store = 1 + place * modules.len() + store_place(modules);
     for module_ in modules {
         let ends = ends_at(alloc, links, &node.name)?;
         let setup = NodeSetup {
-            store: store as u32,
+            store: store_number(modules, place),
+            decision: decision_number(modules, place),
             ends: Seq::from_vec(ends),
             ttl,
         };

@@ -85,17 +85,17 @@ fn node_part(
         NodeModule::PrefixManager => Part::Module(new_prefix_manager(alloc, node, setup)?),
         NodeModule::Store => Part::Module(AnyModule::Store(KvModule::new(alloc, kind, node)?)),
         NodeModule::Decision => {
-            Part::Module(AnyModule::Decision(DecisionModule::new(alloc, node)))
+            Part::Module(AnyModule::Decision(DecisionModule::new(alloc, node)?))
         }
         NodeModule::Fib => Part::Module(AnyModule::Fib(FibModule::new(node))),
-        NodeModule::Desk => Part::Desk(Desk::new(alloc, node, setup.store)),
+        NodeModule::Desk => Part::Desk(Desk::new(alloc, node, setup.store, setup.decision)),
     };
     Ok(part)
 }
 
 impl Part {
     ghost use Rattle.std.specs.Option.{option_map_or};
-    ghost use Rattle.net_record.specs.Actors.{new_part, store_of, desk_of, entries_of, finished_by, part_step, part_shown, part_after_settle, part_without_question};
+    ghost use Rattle.net_record.specs.Actors.{new_part, store_of, decision_of, desk_of, entries_of, finished_by, part_step, part_shown, part_after_settle, part_without_question};
     ghost use Rattle.or_actor.specs.Fits.{has_small_link, have_small_links};
     ghost use Rattle.net_record.specs.Small.{HasSmallNumber};
 
@@ -128,6 +128,16 @@ impl Part {
         }
     }
 
+    /// The Decision that it is, if it is one. It takes no memory.
+    pub fn decision(&self) -> Option<&DecisionModule>
+        ensures { option_map (λ s. s.now) result ≡ decision_of self.now }
+    {
+        match self {
+            Part::Module(module_) => module_.decision(),
+            _other => None,
+        }
+    }
+
     /// The journal of the store that it is, if it is one. It takes no memory.
     pub(crate) fn into_journal(self) -> Option<Vec<JournalEntry>>
         ensures { option_map (λ journal. journal.items) result ≡ option_map (λ s. s.journal) (store_of self) }
@@ -148,14 +158,15 @@ impl Part {
         }
     }
 
-    /// The entries of its journal, where it is a store; else none. It takes no memory.
+    /// The entries of its journal, where it is a store, or those that it took, where it is a Decision; else none. It takes no
+    /// memory.
     pub fn entries(&self) -> &[JournalEntry]
         ensures entries { result.now ≡ entries_of self.now }
         ensures small { length result.now < 2 ^ 63 }
     {
-        match self.store() {
-            Some(store) => store.table().journal(),
-            None => &[],
+        match self {
+            Part::Module(module_) => module_.entries(),
+            _other => &[],
         }
     }
 
@@ -169,7 +180,7 @@ impl Part {
         }
     }
 
-    /// A journal of this length is shown to it, before it takes the item, so that a question to a desk finds it. It takes no
+    /// So many entries are shown to it, before it takes the item, so that a question to a desk finds them. It takes no
     /// memory.
     pub(crate) fn show(&mut self, item: &Item, at: u64)
         requires { at < 2 ^ 64 - 1 }
@@ -181,7 +192,7 @@ impl Part {
         }
     }
 
-    /// One turn, in which a desk finds a journal of the length `at`.
+    /// One turn, in which a desk finds `at` entries.
     #[tactic(auto, using(crate::proofs::Parts::state_shown, crate::proofs::Parts::sent_shown))]
     pub(crate) fn take(
         &mut self,
@@ -201,19 +212,13 @@ impl Part {
         Ok(())
     }
 
-    /// A settle, at which the journals of the actors have these lengths. It takes no memory.
-    pub(crate) fn settle(&mut self, lengths: &[u64])
-        requires { (n : _) → slice_index_or lengths.now n 0 < 2 ^ 64 - 1 }
-        ensures { self.new ≡ part_after_settle lengths.now self.old }
+    /// A settle, at which actors have so many entries, by their numbers. It takes no memory.
+    pub(crate) fn settle(&mut self, counts: &[u64])
+        requires { (n : _) → slice_index_or counts.now n 0 < 2 ^ 64 - 1 }
+        ensures { self.new ≡ part_after_settle counts.now self.old }
     {
         match self {
-            Part::Desk(desk) => {
-                let entries = match lengths.get(desk.store() as usize) {
-                    Some(entries) => *entries,
-                    None => 0,
-                };
-                desk.settle(entries);
-            }
+            Part::Desk(desk) => desk.settle(counts),
             _other => {}
         }
     }
@@ -252,7 +257,7 @@ impl Module for Part {
         }
     }
 
-    /// A desk finds the length that was shown to it last.
+    /// A desk finds as many entries as were shown to it last.
     #[tactic(auto, unfolding(crate::specs::Actors::part_step), using(crate::proofs::Parts::desk_turned))]
     fn turn(&mut self, lane: u32, item: Item, out: &mut Outbox) -> Result<u64, NoMemory>
         requires { IsTrue (has_small_link item) }

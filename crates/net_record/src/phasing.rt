@@ -6,13 +6,13 @@ ghost use Rattle.net_laboratory.specs.Small.{NamesSmallLink};
 ghost use Rattle.net_laboratory.specs.Sound.{is_routing_command};
 ghost use Rattle.net_laboratory.specs.Limits.{most_links};
 ghost use Rattle.net_record.specs.Roles.{roles, most_actors};
-ghost use Rattle.net_record.specs.Phases.{ups, module_takes_ticks, takes_ticks, tick_for, ticks, module_restarts, restarts_with, restart_for, restarts, to_module, to_link, issues_of, moment_after, phases_from, phases};
+ghost use Rattle.net_record.specs.Phases.{ups, module_takes_ticks, takes_ticks, tick_for, ticks, module_restarts, restarts_with, restart_for, restarts, to_module, to_link, issues_of, moment_after, shows_routes, phases_from, phases};
 ghost use Rattle.net_record.specs.Small.{IssuesSmallLinks};
 
 use crate::numbering::{link_number, module_number, roles};
 use crate::phase::Phase;
 use crate::role::{NodeModule, Role};
-use net_laboratory::{Command, LinkDecl, Scenario};
+use net_laboratory::{Command, LinkDecl, Scenario, Show};
 use or_actor::Output;
 use or_base::{Act, Bytes, Copied, Item, Key, Name, NoMemory, Seq};
 use std::alloc::Global;
@@ -242,7 +242,17 @@ fn add_full_issues(
             let withdraw = Item::Withdraw { prefix: *prefix };
             add_to_module(issues, all, NodeModule::PrefixManager, node, withdraw)?;
         }
-        // The program runs no other command yet.
+        Command::Aggregate { node, prefix, min } => {
+            let aggregate = Item::Aggregate {
+                prefix: *prefix,
+                min: *min,
+            };
+            add_to_module(issues, all, NodeModule::PrefixManager, node, aggregate)?;
+        }
+        Command::Ask { node, prefix } => {
+            let ask = Item::Ask { prefix: *prefix };
+            add_to_module(issues, all, NodeModule::Desk, node, ask)?;
+        }
         _other => {}
     }
     Ok(())
@@ -305,6 +315,16 @@ fn moment_after(moment: u64, command: &Command) -> u64
     }
 }
 
+/// What a settle shows besides its line are routes too.
+pub fn shows_routes(show: Show) -> bool
+    ensures { result ≡ shows_routes show }
+{
+    match show {
+        Show::Both | Show::Routes => true,
+        Show::Stores | Show::Nothing => false,
+    }
+}
+
 /// The phases of commands, where the driver has these items for the first of them already.
 fn phases_from(
     alloc: Global,
@@ -323,11 +343,12 @@ fn phases_from(
     let mut moment = 0;
     for command in commands {
         match command {
-            Command::Settle { rounds, .. } => {
+            Command::Settle { rounds, show } => {
                 phases.push(Phase {
                     issues: Seq::from_vec(issues),
                     rounds: *rounds,
                     moment,
+                    shows_routes: shows_routes(*show),
                 })?;
                 issues = Vec::new(alloc);
             }

@@ -25,6 +25,8 @@ pub enum NodeModule {
 pub struct NodeSetup {
     /// The actor number of the node's store.
     pub store: u32,
+    /// That of the node's Decision; the driver's, where the node has none.
+    pub decision: u32,
     /// The ends of the node's links, in the order of the links' numbers.
     pub ends: Seq<LinkEnd>,
     /// The lifetime of the records that the node publishes, in milliseconds.

@@ -1,10 +1,11 @@
-ghost use Rattle.std.specs.Prelude.{◌≡◌, drop, IfOk};
-ghost use Rattle.net_record.specs.World.{marks_of};
+ghost use Rattle.std.specs.Prelude.{◌≡◌, ◌<◌, ◌++◌, drop, length, map, IfOk, OnOk};
+ghost use Rattle.decision_core.specs.Decision.{routes_of};
+ghost use Rattle.net_record.specs.World.{marks_of, all_routes, with_routes, nodes_told};
 ghost use Rattle.net_record.specs.Records.{journals_of};
 
 use crate::actor::ActorState;
 use crate::record::NodeMark;
-use or_base::{JournalEntry, NoMemory, Seq, SyncDone, copied_items};
+use or_base::{JournalEntry, NoMemory, Route, Seq, SyncDone, copied_items};
 use std::alloc::Global;
 
 /// The full syncs from this number on.
@@ -18,8 +19,8 @@ fn syncs_from(alloc: Global, done: &[SyncDone], told: u64) -> Result<Vec<SyncDon
     Ok(syncs)
 }
 
-/// What a settle tells of the stores among the actors, in order.
-pub fn marks_of(alloc: Global, actors: &[ActorState]) -> Result<Vec<NodeMark>, NoMemory>
+/// What a settle tells of the stores among the actors, in order, beside routes.
+fn marks_of(alloc: Global, actors: &[ActorState]) -> Result<Vec<NodeMark>, NoMemory>
     ensures { IfOk result (λ marks. marks.items ≡ marks_of actors.now) }
 {
     let mut marks = Vec::new(alloc);
@@ -36,6 +37,56 @@ pub fn marks_of(alloc: Global, actors: &[ActorState]) -> Result<Vec<NodeMark>, N
         }
     }
     Ok(marks)
+}
+
+/// The routes of each Decision among the actors, in order.
+fn all_routes(alloc: Global, actors: &[ActorState]) -> Result<Vec<Seq<Route>>, NoMemory>
+    ensures { IfOk result (λ all. all.items ≡ all_routes actors.now) }
+{
+    let mut all = Vec::new(alloc);
+    for actor in actors {
+        if let Some(decision) = actor.part.decision() {
+            let routes = decision.routes()?.routes()?;
+            all.push(Seq::from_vec(routes))?;
+        }
+    }
+    Ok(all)
+}
+
+/// The marks of nodes with the routes of each.
+fn with_routes(
+    alloc: Global,
+    marks: Vec<NodeMark>,
+    all: Vec<Seq<Route>>,
+) -> Result<Vec<NodeMark>, NoMemory>
+    ensures { IfOk result (λ told. told.items ≡ with_routes marks.items all.items) }
+{
+    let mut told = Vec::new(alloc);
+    let mut routes = all.into_iter();
+    for mark in marks {
+        match routes.next() {
+            Some(routes) => told.push(NodeMark { routes, ..mark })?,
+            None => told.push(mark)?,
+        }
+    }
+    Ok(told)
+}
+
+/// What a settle tells of the nodes among the actors, in order; their routes too, where it shows routes.
+#[tactic(auto, unfolding(crate::specs::World::nodes_told))]
+pub fn nodes_told(
+    alloc: Global,
+    actors: &[ActorState],
+    shows: bool,
+) -> Result<Vec<NodeMark>, NoMemory>
+    ensures { IfOk result (λ nodes. nodes.items ≡ nodes_told actors.now shows) }
+{
+    let marks = marks_of(alloc, actors)?;
+    if !shows {
+        return Ok(marks);
+    }
+    let all = all_routes(alloc, actors)?;
+    with_routes(alloc, marks, all)
 }
 
 /// The journals of the stores among the actors, in order. They are moved.

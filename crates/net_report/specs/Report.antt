@@ -23,6 +23,7 @@ use Rattle.net_laboratory.specs.declared.declared.NodeDecl.{NodeDecl}
 use Rattle.net_laboratory.specs.declared.command.Command.{Command}
 use Rattle.net_laboratory.specs.declared.command.Command.TheVariants.{Settle}
 use Rattle.net_laboratory.specs.Scenario.{Laboratory}
+use Rattle.net_record.specs.Phases.{shows_routes}
 use Rattle.net_record.specs.declared.record.AnswerDone.{AnswerDone}
 use Rattle.net_record.specs.declared.record.NodeMark.{NodeMark}
 use Rattle.net_record.specs.declared.record.SettleDone.{SettleDone}
@@ -156,18 +157,15 @@ shows_stores show.Routes = false
 shows_stores show.Nothing = false
 
 -- stores have no routes to show
-abbrev pub shows_routes : Kind → Show → Bool
-shows_routes kind.Stores s = false
-shows_routes kind.Full show.Both = true
-shows_routes kind.Full show.Stores = false
-shows_routes kind.Full show.Routes = true
-shows_routes kind.Full show.Nothing = false
+abbrev pub prints_routes : Kind → Show → Bool
+prints_routes kind.Stores s = false
+prints_routes kind.Full s = shows_routes s
 
 -- what a settle shows besides its line and the answers
 unfoldable pub shown_text : Kind → Show → List NodeDecl → List (List JournalEntry) → SettleDone → List ℕ
 shown_text kind s nodes journals settle =
     (if shows_stores s then stores_text nodes journals settle.nodes settle.moment else [])
-    ++ (if shows_routes kind s then routes_text nodes settle.nodes else [])
+    ++ (if prints_routes kind s then routes_text nodes settle.nodes else [])
 
 -- `{"do":"turn","lane":<lane>,"at":<at>}`
 unfoldable pub turn_line : TurnDone → List ℕ

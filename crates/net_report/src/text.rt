@@ -1,7 +1,7 @@
 //! What the lines make up: the routes of the nodes at a settle, and the settles of a run.
 
 ghost use Rattle.std.specs.Prelude.{◌≡◌, ◌++◌, OnOk, string_bytes};
-ghost use Rattle.net_report.specs.Report.{node_routes_text, phase_text, routes_text, settle_text, settles_text, shown_text, shows_routes, shows_stores, trace_text, turns_of_phase};
+ghost use Rattle.net_report.specs.Report.{node_routes_text, phase_text, routes_text, settle_text, settles_text, shown_text, prints_routes, shows_stores, trace_text, turns_of_phase};
 ghost use Rattle.net_report.specs.Indexes.{journals_of};
 
 use crate::lines::settle_line;
@@ -10,7 +10,7 @@ use crate::stores::{indexes_of, stores_text};
 use crate::written::write_lines;
 use kv_table::HeldIndex;
 use net_laboratory::{Command, Kind, NodeDecl, Scenario, Show};
-use net_record::{NodeMark, Record, SettleDone};
+use net_record::{NodeMark, Record, SettleDone, shows_routes};
 use or_base::{Name, NoMemory, TurnDone};
 
 /// A node's routes at a settle, and how its forwarding agent stands.
@@ -44,13 +44,13 @@ fn shows_stores(show: Show) -> bool
     }
 }
 
-/// Whether the nodes' routes are shown: a store has none.
-fn shows_routes(kind: Kind, show: Show) -> bool
-    ensures { result ≡ shows_routes kind show }
+/// Whether the nodes' routes are printed: a store has none.
+fn prints_routes(kind: Kind, show: Show) -> bool
+    ensures { result ≡ prints_routes kind show }
 {
-    match (kind, show) {
-        (Kind::Full, Show::Both | Show::Routes) => true,
-        (Kind::Full, Show::Stores | Show::Nothing) | (Kind::Stores, _) => false,
+    match kind {
+        Kind::Full => shows_routes(show),
+        Kind::Stores => false,
     }
 }
 
@@ -70,7 +70,7 @@ fn shown_text(
     if shows_stores(show) {
         stores_text(out, nodes, indexes, settle.nodes.as_slice(), settle.moment)?;
     }
-    if shows_routes(kind, show) {
+    if prints_routes(kind, show) {
         routes_text(out, nodes, settle.nodes.as_slice())?;
     }
     Ok(())

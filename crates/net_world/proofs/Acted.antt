@@ -4,14 +4,16 @@ use Rattle.std.specs.Prelude.{All}
 use Rattle.std.proofs.lemmas.Bool.{cases_lt}
 use Rattle.std.proofs.lemmas.List.{get_or_past, get_or_read}
 use Rattle.std.proofs.lemmas.List.Elements.{All-nil, All-append, All-set, All-get_or, All-same, All-weaker, All-replicate}
+use Rattle.std.specs.Option.{option_map_or}
+use Rattle.or_base.specs.declared.asked.Asked.{Asked}
 use Rattle.or_base.specs.declared.item.Item.{Item}
 use Rattle.or_base.specs.declared.item.Stamped.{Stamped}
 use Rattle.or_actor.specs.declared.output.Output.{Output}
 use Rattle.or_actor.specs.Steps.{TurnMade, turn_made, next_stamp}
 use Rattle.net_record.specs.declared.part.Part.{Part}
 use Rattle.net_record.specs.declared.actor.ActorState.{ActorState}
-use Rattle.net_record.specs.Desk.{DeskState, key_asked}
-use Rattle.net_record.specs.Actors.{no_actor, actor_at, desk_of, entries_of, made_at, made_asked, made_for, part_step, actor_after, outputs_of}
+use Rattle.net_record.specs.Desk.{DeskState, asked_in, view_for}
+use Rattle.net_record.specs.Actors.{no_actor, actor_at, desk_of, entries_of, made_at, made_in, view_asked, made_for, part_step, actor_after, outputs_of}
 use Rattle.net_world.specs.Sound.{IsAtMost, IsClockedBelow, StayClocked}
 use Rattle.net_world.specs.Acting.{made_from, actors_after}
 use Rattle.net_world.proofs.Clocked.{clocked_same}
@@ -44,14 +46,17 @@ made_below : (most : ℕ) (stamps : List ℕ) (at : ℕ) → All (IsAtMost most)
 made_below most stamps zero all = omega arith
 made_below most stamps (suc n) all = stamp_below most stamps n all
 
-asked_below : (most : ℕ) (actors : List ActorState) (desk : Option DeskState) (asked : Option (List ℕ)) (at : ℕ) → All (IsClockedBelow most) actors → made_asked actors desk asked at ≤ most
-asked_below most actors None asked at all = omega arith
-asked_below most actors (Some d) None at all = omega arith
-asked_below most actors (Some d) (Some key) at all = made_below most (actor_at actors d.store).made at (stamps_below most actors d.store all)
+in_below : (most : ℕ) (actors : List ActorState) (desk : Option DeskState) (asked : Option Asked) (at : ℕ) → All (IsClockedBelow most) actors
+    → option_map_or (made_in actors at) (view_asked desk asked) 0 ≤ most
+in_below most actors None asked at all = omega arith
+in_below most actors (Some d) None at all = omega arith
+in_below most actors (Some d) (Some asked) at all =
+    let owner = (view_for d asked).owner in
+    made_below most (actor_at actors owner).made at (stamps_below most actors owner all)
 
 found_below : (most : ℕ) (actors : List ActorState) (part : Part) (item : Item) (at : ℕ) → All (IsClockedBelow most) actors → made_for actors part item at ≤ most
 unfolding made_for
-found_below most actors part item at all = asked_below most actors (desk_of part) (key_asked item) at all
+found_below most actors part item at all = in_below most actors (desk_of part) (asked_in item) at all
 
 -- ---- a turn
 

@@ -12,12 +12,13 @@ use Rattle.net_record.specs.Reached.{IsOfARun}
 use Rattle.net_record.specs.Given.{run_given, GivenIsARun, GivenAreDone, RoundsAreReached, GivenIsReached}
 use Rattle.net_record.specs.Ends.{EndsDrained, SettledRoundsEndDrained, GivenEndsDrained}
 use Rattle.net_record.specs.Tells.{RecordTells, RunsTell}
+use Rattle.net_answers.specs.Recorded.{RecordAnswers, RecordsAnswer}
 use Rattle.net_agree.specs.Recorded.{RecordAgrees, RecordsAgree}
 use Rattle.net_world.specs.declared.fault.RunFault.{RunFault}
 use Rattle.net_world.specs.declared.fault.RunFault.TheVariants.{Unsettled, NoMemory}
 use Rattle.net_world.specs.declared.fault.ReplayFault.{ReplayFault}
 use Rattle.net_world.specs.declared.fault.ReplayFault.TheVariants.{BadTurn as NamesTurn, Unsettled as NamesPhase, NoMemory as GivenNoMemory}
-use Rattle.net_world.specs.Fault.{IsFaultOf, FaultTells, FaultAgrees}
+use Rattle.net_world.specs.Fault.{IsFaultOf, FaultTells, FaultAnswers, FaultAgrees}
 use Rattle.net_world.specs.Given.{IsGivenRecord, IsGivenFault, NamesBadTurn}
 
 -- ---- round robin
@@ -41,6 +42,14 @@ pub fault_tells : (lab : Laboratory) (fault : RunFault) → RunsTell → RoundsA
 fault_tells lab (Unsettled settle done) law reached unsettled = law lab done (subst (IsOfARun lab) (sym unsettled.all) (reached lab))
 fault_tells lab NoMemory law reached unsettled = tt
 
+-- its answers and routes are what its journals tell
+pub recorded_answers : (lab : Laboratory) (done : Record) → RecordsAnswer → RoundsAreReached → IsTrue (is_sound lab) → IsSettled (round_robin lab) done → RecordAnswers lab done
+recorded_answers lab done law reached sound settled = law lab done sound (subst (IsOfARun lab) (sym settled.all) (reached lab))
+
+pub fault_answers : (lab : Laboratory) (fault : RunFault) → RecordsAnswer → RoundsAreReached → IsTrue (is_sound lab) → IsFaultOf (round_robin lab) fault → FaultAnswers lab fault
+fault_answers lab (Unsettled settle done) law reached sound unsettled = law lab done sound (subst (IsOfARun lab) (sym unsettled.all) (reached lab))
+fault_answers lab NoMemory law reached sound unsettled = tt
+
 -- the stores of the record agree
 pub recorded_agrees : (lab : Laboratory) (done : Record) → RecordsAgree → RoundsAreReached → IsTrue (is_sound lab) → IsSettled (round_robin lab) done → RecordAgrees lab done
 recorded_agrees lab done law reached sound settled = law lab done sound (subst (IsOfARun lab) (sym settled.all) (reached lab))
@@ -49,7 +58,7 @@ pub fault_agrees : (lab : Laboratory) (fault : RunFault) → RecordsAgree → Ro
 fault_agrees lab (Unsettled settle done) law reached sound unsettled = law lab done sound (subst (IsOfARun lab) (sym unsettled.all) (reached lab))
 fault_agrees lab NoMemory law reached sound unsettled = tt
 
-pub ruleset recorded = (recorded_run, recorded_end, recorded_tells, fault_tells, recorded_agrees, fault_agrees)
+pub ruleset recorded = (recorded_run, recorded_end, recorded_tells, fault_tells, recorded_answers, fault_answers, recorded_agrees, fault_agrees)
 
 -- ---- given turns
 
@@ -71,6 +80,9 @@ given_end lab turns done law given = law lab turns given.settled
 pub given_tells : (lab : Laboratory) (turns : List Turn) (done : Record) → RunsTell → GivenIsReached → IsGivenRecord (run_given lab turns) done → RecordTells lab done
 given_tells lab turns done law reached given = law lab done (given_of_a_run lab turns done reached given)
 
+pub given_answers : (lab : Laboratory) (turns : List Turn) (done : Record) → RecordsAnswer → GivenIsReached → IsTrue (is_sound lab) → IsGivenRecord (run_given lab turns) done → RecordAnswers lab done
+given_answers lab turns done law reached sound given = law lab done sound (given_of_a_run lab turns done reached given)
+
 pub given_agrees : (lab : Laboratory) (turns : List Turn) (done : Record) → RecordsAgree → GivenIsReached → IsTrue (is_sound lab) → IsGivenRecord (run_given lab turns) done → RecordAgrees lab done
 given_agrees lab turns done law reached sound given = law lab done sound (given_of_a_run lab turns done reached given)
 
@@ -80,4 +92,4 @@ given_bad lab turns (NamesTurn index) law bad = (law lab turns).1 index bad
 given_bad lab turns (NamesPhase settle) law bad = tt
 given_bad lab turns GivenNoMemory law bad = tt
 
-pub ruleset given_recorded = (given_done, given_run, given_end, given_tells, given_agrees, given_bad)
+pub ruleset given_recorded = (given_done, given_run, given_end, given_tells, given_answers, given_agrees, given_bad)

@@ -12,7 +12,7 @@ use Rattle.net_record.specs.declared.wire.Wire.{Wire}
 use Rattle.net_record.specs.declared.actor.ActorState.{ActorState}
 use Rattle.net_record.specs.declared.record.SettleDone.{SettleDone}
 use Rattle.net_record.specs.Wired.{JoinsBelow, IsWired}
-use Rattle.net_record.specs.Actors.{new_actor, journal_lengths, actor_after_settle, actors_after_settle}
+use Rattle.net_record.specs.Actors.{new_actor, entry_counts, actor_after_settle, actors_after_settle}
 use Rattle.net_record.specs.World.{WorldState, is_empty, driver_clock, greatest_clock}
 use Rattle.net_world.specs.Acting.{made_from, actors_after}
 use Rattle.net_world.proofs.Acted.{clocks_weaker, stamp_most, length-after, clocks_after}
@@ -171,7 +171,7 @@ pub sound_settle : (w : WorldState) (clock : ℕ) (giving actors : List ActorSta
 sound_settle w clock giving actors settles sound is stay set_to n =
     let most = done_in w + 1 in
     let kept = clocks_weaker (done_in w) most giving (omega arith) (stay.clocks (done_in w) sound.clocks) in
-    sound_with w most w.lanes actors w.turns settles sound refl (ap length set_to ∙ length-map giving (actor_after_settle clock (journal_lengths giving)) ∙ stay.len) (omega (arith, n))
+    sound_with w most w.lanes actors w.turns settles sound refl (ap length set_to ∙ length-map giving (actor_after_settle clock (entry_counts giving)) ∙ stay.len) (omega (arith, n))
     (lanes_weaker (done_in w) most w.lanes (omega arith) sound.items)
     (All-same (IsClockedBelow most) actors (actors_after_settle clock giving) set_to
-    (clocks_settled most clock (journal_lengths giving) giving (omega (arith, is, greatest_below (done_in w) w.actors sound.clocks)) kept))
+    (clocks_settled most clock (entry_counts giving) giving (omega (arith, is, greatest_below (done_in w) w.actors sound.clocks)) kept))

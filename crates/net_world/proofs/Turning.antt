@@ -12,7 +12,7 @@ use Rattle.net_record.specs.declared.record.SettleDone.{SettleDone}
 use Rattle.net_record.specs.declared.record.AnswerDone.{AnswerDone}
 use Rattle.net_record.specs.Actors.{no_actor, actor_at, Range, range_for, is_in_range, made_by, outputs_of, actors_after_settle}
 use Rattle.net_record.specs.Answers.{giving_of}
-use Rattle.net_record.specs.World.{WorldState, turn, turn_of, turn_by, reader_of, range, range_by, waiting, is_empty, deliver, driver_clock, greatest_clock, marks_of, issue, settle}
+use Rattle.net_record.specs.World.{WorldState, turn, turn_of, turn_by, reader_of, range, range_by, waiting, is_empty, deliver, driver_clock, greatest_clock, nodes_told, issue, settle}
 use Rattle.net_record.specs.Rounds.{longest}
 use Rattle.net_world.specs.Acting.{made_from, actors_after}
 use Rattle.net_world.specs.Replaying.{may_find}
@@ -131,11 +131,11 @@ unfolding issue
 issue_is_made w stamp issues lanes is put = rw (put, is) refl
 
 -- a settle was done
-pub settle_is_made : (w : WorldState) (moment clock : ℕ) (asked : List ℕ) (nodes : List NodeMark) (giving actors : List ActorState) (answers : List AnswerDone) (settles : List SettleDone)
-    → clock ≡ greatest_clock w.actors + 1 → nodes ≡ marks_of w.actors
+pub settle_is_made : (w : WorldState) (moment clock : ℕ) (asked : List ℕ) (shows : Bool) (nodes : List NodeMark) (giving actors : List ActorState) (answers : List AnswerDone) (settles : List SettleDone)
+    → clock ≡ greatest_clock w.actors + 1 → nodes ≡ nodes_told w.actors shows
     → record { actors = giving; answers = answers } ≡ giving_of w.actors asked → actors ≡ actors_after_settle clock giving
     → settles ≡ w.settles ++ record { turns = length w.turns; moment = moment; nodes = nodes; answers = answers } ∷ []
-    → record { wires = w.wires; lanes = w.lanes; actors = actors; turns = w.turns; settles = settles } ≡ settle moment asked w
+    → record { wires = w.wires; lanes = w.lanes; actors = actors; turns = w.turns; settles = settles } ≡ settle moment asked shows w
 unfolding settle
-settle_is_made w moment clock asked nodes giving actors answers settles is marked gave set_to done =
+settle_is_made w moment clock asked shows nodes giving actors answers settles is marked gave set_to done =
     rw (done, set_to, marked, is, ← gave) refl

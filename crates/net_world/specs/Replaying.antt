@@ -23,7 +23,7 @@ is_due p = is_open p.unsettled && is_drained p.world
 -- the first of these phases is settled
 abbrev pub settled_first : WorldState → List Phase → Progress
 settled_first w [] = record { world = w; unsettled = [] }
-settled_first w (phase ∷ phases) = record { world = settle phase.moment (desks_asked phase.issues) w; unsettled = phases }
+settled_first w (phase ∷ phases) = record { world = settle phase.moment (desks_asked phase.issues) phase.shows_routes w; unsettled = phases }
 
 -- the first of the phases begins
 abbrev pub begun : Progress → Progress

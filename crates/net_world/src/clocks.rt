@@ -1,5 +1,5 @@
 ghost use Rattle.std.specs.Prelude.{◌≡◌, ◌-◌, ◌<◌, ◌^◌, map, slice_index_or, IfOk, OnOk, OnErr};
-ghost use Rattle.net_record.specs.Actors.{journal_lengths, actor_after_settle, actors_after_settle};
+ghost use Rattle.net_record.specs.Actors.{entry_counts, actor_after_settle, actors_after_settle};
 ghost use Rattle.net_record.specs.World.{driver_clock, greatest_clock};
 
 use net_record::ActorState;
@@ -27,27 +27,27 @@ pub fn greatest_clock(actors: &[ActorState]) -> u64
     greatest
 }
 
-/// The lengths of the actors' journals, by their numbers.
-fn journal_lengths(alloc: Global, actors: &[ActorState]) -> Result<Vec<u64>, NoMemory>
-    ensures lengths { IfOk result (λ lengths. lengths.items ≡ journal_lengths actors.now) }
-    ensures small { IfOk result (λ lengths. (n : _) → slice_index_or lengths.items n 0 < 2 ^ 64 - 1) }
+/// The counts of the actors' journals, by their numbers.
+fn entry_counts(alloc: Global, actors: &[ActorState]) -> Result<Vec<u64>, NoMemory>
+    ensures counts { IfOk result (λ counts. counts.items ≡ entry_counts actors.now) }
+    ensures small { IfOk result (λ counts. (n : _) → slice_index_or counts.items n 0 < 2 ^ 64 - 1) }
 {
-    let mut lengths = Vec::new(alloc);
+    let mut counts = Vec::new(alloc);
     for actor in actors {
-        lengths.push(actor.part.entries().len() as u64)?;
+        counts.push(actor.part.entries().len() as u64)?;
     }
-    Ok(lengths)
+    Ok(counts)
 }
 
-/// A settle of each actor, at which the journals have these lengths.
+/// A settle of each actor, at which the journals have these counts.
 
-fn settle_each(actors: &mut Vec<ActorState>, clock: u64, lengths: &[u64])
-    requires { (n : _) → slice_index_or lengths.now n 0 < 2 ^ 64 - 1 }
-    ensures { actors.new.items ≡ map (actor_after_settle clock lengths.now) actors.old.items }
+fn settle_each(actors: &mut Vec<ActorState>, clock: u64, counts: &[u64])
+    requires { (n : _) → slice_index_or counts.now n 0 < 2 ^ 64 - 1 }
+    ensures { actors.new.items ≡ map (actor_after_settle clock counts.now) actors.old.items }
 {
     for number in 0..actors.len() {
         let actor = &mut actors[number];
-        actor.settle(clock, lengths);
+        actor.settle(clock, counts);
     }
 }
 
@@ -57,7 +57,7 @@ pub fn settle_all(alloc: Global, actors: &mut Vec<ActorState>, clock: u64) -> Re
     ensures ok { OnOk result (actors.new.items ≡ actors_after_settle clock actors.old.items) }
     ensures err { OnErr result (actors.new.items ≡ actors.old.items) }
 {
-    let lengths = journal_lengths(alloc, actors.as_slice())?;
-    settle_each(actors, clock, lengths.as_slice());
+    let counts = entry_counts(alloc, actors.as_slice())?;
+    settle_each(actors, clock, counts.as_slice());
     Ok(())
 }

@@ -6,6 +6,7 @@ ghost use Rattle.net_record.specs.Ends.{EndsDrained};
 ghost use Rattle.net_record.specs.Records.{record_of, IsRecordOf};
 ghost use Rattle.net_record.specs.Run.{run, schedule_of};
 ghost use Rattle.net_record.specs.Tells.{RecordTells};
+ghost use Rattle.net_answers.specs.Recorded.{RecordAnswers};
 ghost use Rattle.net_agree.specs.Recorded.{RecordAgrees};
 ghost use Rattle.net_world.specs.Given.{IsGivenRecord, IsGivenFault, NamesBadTurn};
 
@@ -13,6 +14,7 @@ use crate::fault::ReplayFault;
 use crate::scenario::scenario_is_sound;
 use crate::world::World;
 use net_agree::records_agree;
+use net_answers::records_answer;
 use net_laboratory::{Scenario, Schedule, Turn};
 use net_record::{
     Phase, Record, desks_asked, given_are_done, given_ends_drained, given_is_a_run,
@@ -115,7 +117,8 @@ impl GivenRun {
     {
         if let Some(phase) = self.unsettled.pop_front() {
             let asked = desks_asked(self.alloc, phase.issues.as_slice())?;
-            self.world.settle(phase.moment, asked.as_slice())?;
+            self.world
+                .settle(phase.moment, asked.as_slice(), phase.shows_routes)?;
         }
         Ok(())
     }
@@ -244,8 +247,8 @@ fn run_schedule(
 
 /// Runs a scenario under the turns of a schedule, within the budget of every run. A phase ends at the first moment when
 /// no item waits. The record is that of the run that settles every phase with just these turns; it has no marks, and it
-/// tells what that of every run does: what a settle tells was there, answers are what journals hold, no desk is behind,
-/// and at a settle stores that full syncs join agree. It fails at the first turn that isn't legal, comes after the last
+/// tells what that of every run does: what a settle tells was there, values and routes of answers are what journals hold and
+/// the routes from scratch over them, and so are the routes at settles; and at a settle stores that full syncs join agree. It fails at the first turn that isn't legal, comes after the last
 /// settle or is missing before it, with its index; where the budget is exceeded, with the phase; and where memory runs out.
 #[tactic(auto, using(crate::proofs::Recorded::given_recorded))]
 pub fn replay(
@@ -258,6 +261,7 @@ pub fn replay(
     ensures drained { IfOk result (λ done. EndsDrained scenario.now (run_given scenario.now schedule.now.turns).last) }
     ensures is_run { IfOk result (λ done. IsRecordOf (run scenario.now (schedule_of done.turns)) done) }
     ensures tells { IfOk result (λ done. RecordTells scenario.now done) }
+    ensures answers { IfOk result (λ done. RecordAnswers scenario.now done) }
     ensures agrees { IfOk result (λ done. RecordAgrees scenario.now done) }
     ensures fault { IfErr result (λ fault. IsGivenFault (run_given scenario.now schedule.now.turns) fault) }
     ensures bad { IfErr result (λ fault. NamesBadTurn (run scenario.now schedule.now.turns) fault) }
@@ -267,6 +271,7 @@ pub fn replay(
     given_ends_drained();
     given_is_reached();
     runs_tell();
+    records_answer();
     records_agree();
     scenario_is_sound(scenario);
     match run_schedule(alloc, scenario, schedule) {

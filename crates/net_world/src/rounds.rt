@@ -10,14 +10,16 @@ ghost use Rattle.net_record.specs.Tells.{RecordTells};
 ghost use Rattle.net_record.specs.Small.{IssuesSmallLinks};
 ghost use Rattle.net_world.specs.Busy.{turns_on_each};
 ghost use Rattle.net_world.specs.Settling.{after_phase, settles_phase};
+ghost use Rattle.net_answers.specs.Recorded.{RecordAnswers};
 ghost use Rattle.net_agree.specs.Recorded.{RecordAgrees};
-ghost use Rattle.net_world.specs.Fault.{IsFaultOf, FaultTells, FaultAgrees};
+ghost use Rattle.net_world.specs.Fault.{IsFaultOf, FaultTells, FaultAnswers, FaultAgrees};
 
 use crate::fault::RunFault;
 use crate::lanes::Busy;
 use crate::scenario::scenario_is_sound;
 use crate::world::World;
 use net_agree::records_agree;
+use net_answers::records_answer;
 use net_laboratory::Scenario;
 use net_record::{
     Phase, Record, desks_asked, phases, rounds_are_a_run, rounds_are_reached, runs_tell,
@@ -135,6 +137,7 @@ impl MarkedWorld {
             issues,
             rounds,
             moment,
+            shows_routes,
         } = phase;
         let asked = desks_asked(*self.marks.allocator(), issues.as_slice())?;
         self.world.issue(issues.into_vec()?)?;
@@ -142,7 +145,7 @@ impl MarkedWorld {
         if self.is_over() || !self.is_drained() {
             return Ok(false);
         }
-        self.world.settle(moment, asked.as_slice())?;
+        self.world.settle(moment, asked.as_slice(), shows_routes)?;
         Ok(!self.is_over())
     }
 
@@ -191,24 +194,27 @@ fn run_scenario(alloc: Global, scenario: &Scenario) -> Result<Record, RunFault>
 /// it allows. The record is that of these rounds. Each phase has its settle, and no item waits at the end. But for its
 /// marks the record is that of the run under the schedule of its own turns. Whether the run settled or not, every store
 /// is its journal: what a settle tells of one are as many entries as it had then, the first of the journal in the
-/// record, and each answer is what some first entries of its node's journal tell, no desk is behind, no two finished
-/// full syncs that settles tell of one node have the same number, and at a settle stores that full syncs join agree. It
-/// fails where a phase is unsettled, with the phase and the record up to there, and where memory runs out.
+/// record; each answer is what some first entries of its node's journal hold, or the route from scratch over them, and no fewer
+/// than the desk had seen; routes at a settle are those from scratch over the whole journal; no two finished full syncs that
+/// settles tell of one node have the same number, and at a settle stores that full syncs join agree. It fails where a phase is unsettled, with the phase and the record up to there, and where memory runs out.
 #[tactic(auto, using(crate::proofs::Recorded::recorded))]
 pub fn round_robin(alloc: Global, scenario: &Scenario) -> Result<Record, RunFault>
     ensures rounds { IfOk result (λ done. IsSettled (round_robin scenario.now) done) }
     ensures drained { IfOk result (λ done. EndsDrained scenario.now (round_robin scenario.now).last.world) }
     ensures is_run { IfOk result (λ done. IsRecordOf (run scenario.now (schedule_of done.turns)) done) }
     ensures tells { IfOk result (λ done. RecordTells scenario.now done) }
+    ensures answers { IfOk result (λ done. RecordAnswers scenario.now done) }
     ensures agrees { IfOk result (λ done. RecordAgrees scenario.now done) }
     ensures fault { IfErr result (λ fault. IsFaultOf (round_robin scenario.now) fault) }
     ensures fault_tells { IfErr result (λ fault. FaultTells scenario.now fault) }
+    ensures fault_answers { IfErr result (λ fault. FaultAnswers scenario.now fault) }
     ensures fault_agrees { IfErr result (λ fault. FaultAgrees scenario.now fault) }
 {
     rounds_are_a_run();
     settled_rounds_end_drained();
     rounds_are_reached();
     runs_tell();
+    records_answer();
     records_agree();
     scenario_is_sound(scenario);
     match run_scenario(alloc, scenario) {

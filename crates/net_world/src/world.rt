@@ -12,7 +12,7 @@ use crate::start::new_actors;
 use net_laboratory::{MOST_TURNS, Scenario, Turn};
 use net_record::{
     ActorState, MOST_WEIGHT, Record, SettleDone, Wiring, add_item, add_settle, is_in_range,
-    journals_of, longest, marks_of, roles, wires,
+    journals_of, longest, nodes_told, roles, wires,
 };
 use or_actor::{Outbox, Output};
 use or_base::{NoMemory, Seq, TurnDone};
@@ -192,11 +192,12 @@ impl World {
     }
 
     /// A phase ends at a moment, in which these desks were asked: what its settle tells is recorded, with an answer of each in
-    /// this order. Every clock becomes one more than the greatest, and every desk sees its store's journal.
-    pub fn settle(&mut self, moment: u64, asked: &[u32]) -> Result<(), NoMemory>
-        ensures { OnOk result (self.new ≡ settle moment asked.now self.old) }
+    /// this order, and with routes where it shows them. Every clock becomes one more than the greatest, and every desk sees its
+    /// store's journal.
+    pub fn settle(&mut self, moment: u64, asked: &[u32], shows: bool) -> Result<(), NoMemory>
+        ensures { OnOk result (self.new ≡ settle moment asked.now shows self.old) }
     {
-        let nodes = marks_of(self.alloc, self.actors.as_slice())?;
+        let nodes = nodes_told(self.alloc, self.actors.as_slice(), shows)?;
         let clock = greatest_clock(self.actors.as_slice()) + 1;
         self.settles.reserve(1)?;
         let answers = give_all(self.alloc, &mut self.actors, asked)?;

@@ -11,6 +11,7 @@ use Rattle.net_record.specs.Rounds.{round_robin}
 use Rattle.net_record.specs.Records.{record_of, IsSettled, IsUnsettled, IsRecordOf}
 use Rattle.net_record.specs.Run.{run as run_of, schedule_of}
 use Rattle.net_record.specs.Tells.{RecordTells}
+use Rattle.net_answers.specs.Recorded.{RecordAnswers}
 use Rattle.net_agree.specs.Recorded.{RecordAgrees}
 use Rattle.net_world.specs.Given.{IsGivenRecord}
 use Rattle.net_report.specs.Report.{report}
@@ -38,24 +39,25 @@ answer_unsettled lab trace settle done text unsettled e =
     ∙ ap (λ d. answer_after (round_robin lab).unsettled d lab trace) unsettled.all
 
 pub rounds_replayed : (lab : Laboratory) (trace : Bool) (done : Record) (text : List ℕ) → lab.turns ≡ None → IsSettled (round_robin lab) done
-    → EndsDrained lab (round_robin lab).last.world → IsRecordOf (run_of lab (schedule_of done.turns)) done → RecordTells lab done → RecordAgrees lab done
+    → EndsDrained lab (round_robin lab).last.world → IsRecordOf (run_of lab (schedule_of done.turns)) done → RecordTells lab done → RecordAnswers lab done → RecordAgrees lab done
     → text ≡ report done lab trace → IsReplay lab trace text (Some done)
-rounds_replayed lab trace done text none settled drained is_run tells agrees e = record {
+rounds_replayed lab trace done text none settled drained is_run tells answers agrees e = record {
   done = done;
   recorded = refl;
   settled = subst (λ given. IsSettledBy given lab done) (sym none) settled;
   drained = subst (λ given. EndsDrained lab (last_by given lab)) (sym none) drained;
   is_run = is_run;
   tells = tells;
+  answers = answers;
   agrees = agrees;
   report = e;
 }
 
-pub rounds_unsettled : (lab : Laboratory) (settle : ℕ) (done : Record) (text : List ℕ) → lab.turns ≡ None → IsUnsettled (round_robin lab) settle done → RecordTells lab done → RecordAgrees lab done
+pub rounds_unsettled : (lab : Laboratory) (settle : ℕ) (done : Record) (text : List ℕ) → lab.turns ≡ None → IsUnsettled (round_robin lab) settle done → RecordTells lab done → RecordAnswers lab done → RecordAgrees lab done
     → text ≡ unsettled_line settle → IsUnsettledRun lab text (Some done)
-rounds_unsettled lab settle done text none rounds tells agrees e = record {
+rounds_unsettled lab settle done text none rounds tells answers agrees e = record {
   phase = settle;
-  unsettled = subst (λ given. IsUnsettledBy given lab settle (Some done)) (sym none) (record { done = done; recorded = refl; rounds = rounds; tells = tells; agrees = agrees });
+  unsettled = subst (λ given. IsUnsettledBy given lab settle (Some done)) (sym none) (record { done = done; recorded = refl; rounds = rounds; tells = tells; answers = answers; agrees = agrees });
   named = e;
 }
 
@@ -87,14 +89,15 @@ given_bad lab turns trace index text bad e =
 
 pub given_replayed : (lab : Laboratory) (schedule : Schedule) (trace : Bool) (done : Record) (text : List ℕ) → lab.turns ≡ Some schedule → IsGivenRecord (run_given lab schedule.turns) done
     → schedule_of done.turns ≡ schedule.turns → EndsDrained lab (run_given lab schedule.turns).last → IsRecordOf (run_of lab (schedule_of done.turns)) done → RecordTells lab done
-    → RecordAgrees lab done → text ≡ report done lab trace → IsReplay lab trace text (Some done)
-given_replayed lab schedule trace done text gives given did drained is_run tells agrees e = record {
+    → RecordAnswers lab done → RecordAgrees lab done → text ≡ report done lab trace → IsReplay lab trace text (Some done)
+given_replayed lab schedule trace done text gives given did drained is_run tells answers agrees e = record {
   done = done;
   recorded = refl;
   settled = subst (λ turns. IsSettledBy turns lab done) (sym gives) (given, did);
   drained = subst (λ turns. EndsDrained lab (last_by turns lab)) (sym gives) drained;
   is_run = is_run;
   tells = tells;
+  answers = answers;
   agrees = agrees;
   report = e;
 }

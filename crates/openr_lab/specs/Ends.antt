@@ -16,6 +16,7 @@ use Rattle.net_record.specs.Run.{run as run_of, schedule_of}
 use Rattle.net_record.specs.Records.{IsSettled, IsUnsettled, IsRecordOf}
 use Rattle.net_record.specs.Ends.{EndsDrained}
 use Rattle.net_record.specs.Tells.{RecordTells}
+use Rattle.net_answers.specs.Recorded.{RecordAnswers}
 use Rattle.net_agree.specs.Recorded.{RecordAgrees}
 use Rattle.net_world.specs.Given.{IsGivenRecord}
 use Rattle.net_report.specs.Report.{line, report as report_of}
@@ -113,8 +114,9 @@ last_by (Some schedule) lab = (run_given lab schedule.turns).last
 
 -- What status 0 says of the run of a laboratory: the record is that of its run by round robin, or under the turns that it
 -- gives, which settled every phase and left no item. But for its marks it is the record of the run under the schedule of
--- its own turns. What it tells of stores, answers and full syncs holds (`RecordTells`), and stores that full syncs join
--- agree at its settles (`RecordAgrees`). The text is its report.
+-- its own turns. What it tells of stores and full syncs holds (`RecordTells`); its answers are what journals hold, or the routes
+-- from scratch over them, and so are the routes that it tells of (`RecordAnswers`); and stores that full syncs join agree at its
+-- settles (`RecordAgrees`). The text is its report.
 pub record IsReplay (lab : Laboratory) (trace : Bool) (text : List ℕ) (run : Option Record) : Type 0 where
   pub done : Record
   pub recorded : run ≡ Some done
@@ -122,6 +124,7 @@ pub record IsReplay (lab : Laboratory) (trace : Bool) (text : List ℕ) (run : O
   pub drained : EndsDrained lab (last_by lab.turns lab)
   pub is_run : IsRecordOf (run_of lab (schedule_of done.turns)) done
   pub tells : RecordTells lab done
+  pub answers : RecordAnswers lab done
   pub agrees : RecordAgrees lab done
   pub report : text ≡ report_of done lab trace
 
@@ -132,6 +135,7 @@ pub record IsUnsettledRounds (lab : Laboratory) (phase : ℕ) (run : Option Reco
   pub recorded : run ≡ Some done
   pub rounds : IsUnsettled (round_robin lab) phase done
   pub tells : RecordTells lab done
+  pub answers : RecordAnswers lab done
   pub agrees : RecordAgrees lab done
 
 -- Under given turns the budget is exceeded in this phase. There is no record.

@@ -7,7 +7,7 @@ use Rattle.or_base.specs.declared.database.PrefixEntry.{PrefixEntry}
 use Rattle.or_actor.specs.Fits.{have_small_links}
 use Rattle.own_record.proofs.Small.{small_handed_over}
 use Rattle.or_json.specs.Writing.{prefixes_text}
-use Rattle.prefix_manager.specs.PrefixManager.{PrefixManagerState, entries_after, prefix_record, has_none, prefix_manager_step}
+use Rattle.prefix_manager.specs.PrefixManager.{PrefixManagerState, advertising_after, advertised, prefix_record, has_none, prefix_manager_step}
 
 pub none_by_length : (entries : List (Prefix × PrefixEntry)) → (length entries == 0) ≡ has_none entries
 none_by_length [] = refl
@@ -17,5 +17,5 @@ none_by_length (e ∷ es) = grind (arith, nat_tests)
 pub small_step : (s : PrefixManagerState) (item : Item) → have_small_links (prefix_manager_step s item).1 ≡ true
 unfolding prefix_manager_step
 small_step s item =
-    let entries = entries_after s.entries item in
+    let entries = advertised (advertising_after s.advertising item) in
     small_handed_over s.own (prefixes_text (prefix_record s.me entries)) (has_none entries)

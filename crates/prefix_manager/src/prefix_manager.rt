@@ -1,6 +1,7 @@
 ghost use Rattle.std.specs.Prelude.{◌≡◌, ◌++◌, IfOk, IsTrue, OnOk};
-ghost use Rattle.prefix_manager.specs.PrefixManager.{entries_after, prefix_record, has_none};
+ghost use Rattle.prefix_manager.specs.PrefixManager.{prefix_record, has_none};
 
+use crate::advertising::AdvertisedPrefixes;
 use or_actor::{Module, Outbox, has_small_link};
 use or_base::{Item, Name, NoMemory, Prefix, PrefixDb, PrefixEntry, Seq};
 use or_json::{prefix_record_key, prefixes_text};
@@ -14,8 +15,7 @@ use std::marker::Model;
 pub struct PrefixManagerModule {
     alloc: Global,
     me: Name,
-    /// What it advertises, by prefix.
-    entries: BTreeMap<Prefix, PrefixEntry>,
+    advertising: AdvertisedPrefixes,
     own: OwnRecord,
 }
 
@@ -24,24 +24,7 @@ impl Model for PrefixManagerModule {
 
     ghost Value = { PrefixManagerState };
 
-    ghost view = { λ m. record { me = m.me; entries = m.entries.entries; own = m.own } };
-}
-
-/// What an item makes of the entries.
-#[tactic(auto, unfolding(crate::specs::PrefixManager::entries_after))]
-fn take_item(entries: &mut BTreeMap<Prefix, PrefixEntry>, item: &Item) -> Result<(), NoMemory>
-    ensures { OnOk result (entries.new.entries ≡ entries_after entries.old.entries item.now) }
-{
-    match item {
-        Item::Advertise { entry } => {
-            entries.insert(entry.prefix, *entry)?;
-        }
-        Item::Withdraw { prefix } => {
-            entries.remove(prefix);
-        }
-        _other => {}
-    }
-    Ok(())
+    ghost view = { λ m. record { me = m.me; advertising = m.advertising; own = m.own } };
 }
 
 /// The node's prefix record.
@@ -80,7 +63,7 @@ impl PrefixManagerModule {
         Ok(PrefixManagerModule {
             alloc,
             me,
-            entries: BTreeMap::new(alloc),
+            advertising: AdvertisedPrefixes::new(alloc),
             own: OwnRecord::unsent(key, ttl),
         })
     }
@@ -92,10 +75,11 @@ impl PrefixManagerModule {
         ensures sent { OnOk result (out.new ≡ out.old ++ (prefix_manager_step self.old item.now).1) }
         ensures small { OnOk result (IsTrue (have_small_links (prefix_manager_step self.old item.now).1)) }
     {
-        take_item(&mut self.entries, item)?;
-        let db = prefix_record(self.alloc, &self.me, &self.entries)?;
+        self.advertising.take(item)?;
+        let entries = self.advertising.advertised()?;
+        let db = prefix_record(self.alloc, &self.me, &entries)?;
         let text = prefixes_text(self.alloc, &db)?;
-        self.own.hand_over(text, has_none(&self.entries), out)
+        self.own.hand_over(text, has_none(&entries), out)
     }
 }
 

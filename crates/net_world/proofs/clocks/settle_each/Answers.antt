@@ -14,13 +14,13 @@ loop-number-preserved c = record {
   settled =
       let within : c.loop-number.number < length c.loop-number.actors.items =
       omega (arith, c.args.actors.now.ok.0, c.loop-number.invariant.len, c.loop-number-test.true, c.len-number-end.ensures) in
-      map_next (actor_after_settle c.args.clock c.args.lengths.now) c.loop-number.number c.loop-number.actors.items (set c.loop-number.actors.items c.loop-number.number c.settle.new.self)
-      c.index_mut-actor.result.now c.settle.new.self no_actor (map (actor_after_settle c.args.clock c.args.lengths.now) c.args.actors.now.items) within
+      map_next (actor_after_settle c.args.clock c.args.counts.now) c.loop-number.number c.loop-number.actors.items (set c.loop-number.actors.items c.loop-number.number c.settle.new.self)
+      c.index_mut-actor.result.now c.settle.new.self no_actor (map (actor_after_settle c.args.clock c.args.counts.now) c.args.actors.now.items) within
       (get_or_read c.loop-number.actors.items c.loop-number.number c.index_mut-actor.result.now within c.index_mut-actor.ensures.value no_actor)
       c.settle.ensures (search rules) c.loop-number.invariant.settled;
 }
 
 pub returns : goal.returns
 returns c =
-    map_end (actor_after_settle c.args.clock c.args.lengths.now) c.loop-number.number c.loop-number.actors.items (map (actor_after_settle c.args.clock c.args.lengths.now) c.args.actors.now.items)
+    map_end (actor_after_settle c.args.clock c.args.counts.now) c.loop-number.number c.loop-number.actors.items (map (actor_after_settle c.args.clock c.args.counts.now) c.args.actors.now.items)
     (omega (arith, c.args.actors.now.ok.0, c.loop-number.invariant.len, c.loop-number-test.false, c.len-number-end.ensures)) c.loop-number.invariant.settled

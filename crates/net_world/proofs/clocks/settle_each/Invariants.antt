@@ -6,5 +6,5 @@ use Rattle.net_world.proofs.clocks.settle_each.Given as goal
 abbrev pub invariant-loop-number : goal.invariant-loop-number
 invariant-loop-number l = record {
   len : length l.actors.items ≡ length l.fn.actors.items;
-  settled : take l.number l.actors.items ++ map (actor_after_settle l.clock l.lengths) (drop l.number l.actors.items) ≡ map (actor_after_settle l.clock l.lengths) l.fn.actors.items;
+  settled : take l.number l.actors.items ++ map (actor_after_settle l.clock l.counts) (drop l.number l.actors.items) ≡ map (actor_after_settle l.clock l.counts) l.fn.actors.items;
 }

@@ -47,6 +47,6 @@ returns c =
     let i = c.self.inside in
     let w : WorldState = record { wires = i.wiring; lanes = i.lanes; actors = i.actors.items; turns = i.turns.items; settles = i.settles.items } in
     let is : c.greatest_clock-clock.result ≡ greatest_clock w.actors = search rules in
-    settle_is_made w c.args.moment (c.greatest_clock-clock.result + 1) c.args.asked.now c.in_ok-nodes.nodes.items c.give_all.new.actors.items c.settle_all.new.actors.items c.in_ok-answers.answers.items c.push_reserved.new.self.items
+    settle_is_made w c.args.moment (c.greatest_clock-clock.result + 1) c.args.asked.now c.args.shows c.in_ok-nodes.nodes.items c.give_all.new.actors.items c.settle_all.new.actors.items c.in_ok-answers.answers.items c.push_reserved.new.self.items
     (omega (arith, is)) (search rules) (search rules) (search rules) (search rules)
-    ∙ ap (settle c.args.moment c.args.asked.now) c.self.view_is
+    ∙ ap (settle c.args.moment c.args.asked.now c.args.shows) c.self.view_is

@@ -1,0 +1,11 @@
+pub mod Named
+pub mod OfKind
+pub mod Readings
+pub mod Starts
+pub mod Taking
+pub mod Told
+pub mod Covering
+pub mod Advertising
+pub mod Listing
+pub mod Usable
+pub mod Holding

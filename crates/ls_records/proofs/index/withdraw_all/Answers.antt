@@ -1,0 +1,7 @@
+use Rattle.ls_records.proofs.Told.{withdrawn_more}
+use Rattle.ls_records.proofs.index.withdraw_all.Goals as goal
+
+pub loop-entry-preserved : goal.loop-entry-preserved
+loop-entry-preserved c =
+    withdrawn_more c.args.index.now.entries c.loop-entry.index.entries c.withdraw.new.index.entries c.args.node.now c.loop-entry.left.now c.in-Some.rest.now c.args.entries.now c.in-Some.entry.now
+    c.loop-entry.invariant c.in-Some.ensures.cases.0 c.in_ok-withdraw.ensures
