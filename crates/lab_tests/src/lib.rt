@@ -21,6 +21,8 @@ mod records;
 #[cfg(test)]
 mod replays;
 #[cfg(test)]
+mod routes;
+#[cfg(test)]
 mod spark;
 #[cfg(test)]
 mod tables;
