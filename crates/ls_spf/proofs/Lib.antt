@@ -12,4 +12,5 @@ pub mod Making
 pub mod Filling
 pub mod Tight
 pub mod Alone
+pub mod Slack
 pub mod Examples

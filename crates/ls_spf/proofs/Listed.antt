@@ -1,6 +1,6 @@
 -- What is among the elements of a filter, of a map and of joined lists.
 use Rattle.std.proofs.Common.{◌≡◌, List, [], ◌∷◌, map, Bool, true, false, cond, ◌&&◌, refl, sym, ◌∙◌, ap, subst, inl, inr, arith}
-use Rattle.std.specs.List.{Contains, filter, flat_map}
+use Rattle.std.specs.List.{Contains, filter, flat_map, list_all}
 use Rattle.std.proofs.lemmas.List.Elements.{Contains-append_left, Contains-append_right, Contains-append_cases}
 use Rattle.or_base.proofs.Members.{Contains-cases, Contains-first, Contains-later}
 
@@ -10,6 +10,16 @@ none_among c = absurd (omega (arith, c.1))
 pub both_true : (b c : Bool) → (b && c) ≡ true → (b ≡ true) × (c ≡ true)
 both_true true c e = (refl, e)
 both_true false c e = cc
+
+-- where all elements pass a test, one among them does
+pub each_passes : {X : Type 0} (test : X → Bool) (xs : List X) (x : X) → list_all test xs ≡ true → Contains xs x → test x ≡ true
+each_passes test [] x all c = none_among c
+each_passes test (y ∷ ys) x all c =
+    let p = both_true (test y) (list_all test ys) all in
+    elim (Contains-cases y ys x c) as (λ _. test x ≡ true) [
+      | inl same ↦ ap test (sym same) ∙ p.0
+      | inr later ↦ each_passes test ys x p.1 later
+    ]
 
 -- one case of a filter's step, for what is found in it
 found_by : {X : Type 0} (test : X → Bool) (y : X) (ys kept : List X) (x : X) (b : Bool) → test y ≡ b

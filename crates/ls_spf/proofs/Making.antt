@@ -52,7 +52,7 @@ asked_back : (xs : List (List ℕ)) (q : List ℕ) → list_any (λ x. bytes_eq 
 asked_back [] q = refl
 asked_back (x ∷ xs) q = let e = eq_back x q in let r = asked_back xs q in cc
 
-named_alike : (xs ys : List (List ℕ)) (q : List ℕ) → Contains xs q ↔ Contains ys q → list_any (λ x. bytes_eq x q) xs ≡ list_any (λ x. bytes_eq x q) ys
+pub named_alike : (xs ys : List (List ℕ)) (q : List ℕ) → Contains xs q ↔ Contains ys q → list_any (λ x. bytes_eq x q) xs ≡ list_any (λ x. bytes_eq x q) ys
 named_alike xs ys q h =
     let x = is_member-Decides bytes_eq-Decides xs q in
     let y = is_member-Decides bytes_eq-Decides ys q in
@@ -79,7 +79,7 @@ interfaces_in_order x [] all s = tt
 interfaces_in_order x (a ∷ arcs) all s =
     (interfaces_after x a arcs (all a (Contains-first a arcs)) (λ c i. all c (Contains-later a arcs c i)) s.0, interfaces_in_order x arcs (λ c i. all c (Contains-later a arcs c i)) s.1)
 
-first_in_order : (arcs : List Arc) (x y : List ℕ) → IsStrictlySortedBy place_cmp arcs → IsStrictlySortedBy bytes_cmp (first_interfaces arcs x y)
+pub first_in_order : (arcs : List Arc) (x y : List ℕ) → IsStrictlySortedBy place_cmp arcs → IsStrictlySortedBy bytes_cmp (first_interfaces arcs x y)
 unfolding first_interfaces
 first_in_order arcs x y s =
     interfaces_in_order x (filter (begins_least arcs x y) arcs)

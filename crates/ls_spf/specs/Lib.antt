@@ -5,3 +5,4 @@ pub mod Local
 pub mod Search
 pub mod Rows
 pub mod Law
+pub mod Slack

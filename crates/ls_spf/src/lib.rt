@@ -12,6 +12,7 @@
 #![tactic(auto)]
 
 ghost use Rattle.ls_spf.specs.Law.{CostsAreLeast, InterfacesAreFirst, LocalIsLeast, LeastIsLocal, UnionIsFirst};
+ghost use Rattle.ls_spf.specs.Slack.{SlackChangesKeepRight};
 
 mod rows;
 mod scratch;
@@ -33,4 +34,10 @@ pub fn local_is_right()
     ensures costs { LocalIsLeast }
     ensures back { LeastIsLocal }
     ensures hops { UnionIsFirst }
+{}
+
+/// A table that is right for some arcs is right for others too, where all that changes between them are arcs that are the
+/// last of no least walk, before or after. It does nothing.
+pub fn slack_changes_keep_right()
+    ensures { SlackChangesKeepRight }
 {}
