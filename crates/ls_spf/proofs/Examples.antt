@@ -1,7 +1,9 @@
 -- Small cases that compute keep the definitions honest.
-use Rattle.std.proofs.Common.{◌≡◌, ℕ, List, [], ◌∷◌, Some, None, refl}
+use Rattle.std.proofs.Common.{◌≡◌, ℕ, List, [], ◌∷◌, true, false, Some, None, refl}
 use Rattle.ls_graph.specs.declared.arc.Arc.{Arc}
+use Rattle.ls_spf.specs.declared.table.PathRow.{PathRow}
 use Rattle.ls_spf.specs.Least.{least_cost, first_interfaces}
+use Rattle.ls_spf.specs.Slack.{is_slack_at, is_slack_change}
 use Rattle.ls_spf.specs.Table.{tight_arcs}
 
 abbrev a : List ℕ
@@ -61,3 +63,37 @@ no_way_back = refl
 it_stays : first_interfaces parallel a a ≡ []
 unfolding first_interfaces least_cost
 it_stays = refl
+
+-- ---- what is slack where a costs nothing and b costs 2
+
+abbrev row : ℕ → PathRow
+row cost = record { cost = cost; hops = []; tight = [] }
+
+abbrev rows : List (List ℕ × PathRow)
+rows = (a, row 0) ∷ (b, row 2) ∷ []
+
+dearer : is_slack_at rows (arc a 1 b 1 3) (Some 3) ≡ true
+dearer = refl
+
+as_cheap : is_slack_at rows (arc a 1 b 1 2) (Some 2) ≡ false
+as_cheap = refl
+
+not_there : is_slack_at rows (arc a 1 b 1 2) None ≡ true
+not_there = refl
+
+from_beyond_reach : is_slack_at rows (arc c 1 b 2 1) (Some 1) ≡ true
+from_beyond_reach = refl
+
+to_beyond_reach : is_slack_at rows (arc b 3 c 2 9) (Some 9) ≡ false
+to_beyond_reach = refl
+
+-- a link that gets cheaper, though it isn't as cheap as a least walk, and one that gets as cheap
+still_dearer : is_slack_change rows (record { arc = arc a 1 b 1 3; old = Some 4; new = Some 3 }) ≡ true
+still_dearer = refl
+
+now_as_cheap : is_slack_change rows (record { arc = arc a 1 b 1 2; old = Some 4; new = Some 2 }) ≡ false
+now_as_cheap = refl
+
+-- a link of a least walk that goes
+least_gone : is_slack_change rows (record { arc = arc a 1 b 1 2; old = Some 2; new = None }) ≡ false
+least_gone = refl

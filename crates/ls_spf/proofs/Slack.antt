@@ -1,14 +1,12 @@
 -- Where all that changes between some arcs and others is slack, least walks to each node cost the same, end by the same arcs and begin by the same interfaces.
 use Rattle.std.proofs.Common.{◌≡◌, ◌≢◌, ℕ, ◌+◌, ◌<◌, List, [], ◌∷◌, Bool, true, false, cond, ◌&&◌, ◌==◌, Option, Some, None, option_map, refl, sym, ◌∙◌, ap, subst, ◌⊎◌, inl, inr, ◌↔◌, arith}
 use Rattle.std.specs.List.{Contains, filter, flat_map, list_all}
-use Rattle.std.specs.List.Sorted.{IsStrictlySortedBy}
 use Rattle.std.specs.Str.{bytes_eq}
 use Rattle.std.proofs.lemmas.Bool.{ltb-true}
 use Rattle.std.proofs.lemmas.List.Elements.{filter_agree}
 use Rattle.std.proofs.lemmas.List.Kept.{IsStrictlySortedBy-filter}
 use Rattle.std.proofs.lemmas.Slice.Eq.{bytes_eq-Decides}
 use borrow.Author.Tests.{eqb-true, eqb-false}
-use Rattle.or_base.specs.Order.{bytes_cmp}
 use Rattle.ls_graph.specs.declared.arc.Arc.{Arc}
 use Rattle.ls_graph.specs.declared.change.LinkChange.{LinkChange}
 use Rattle.ls_graph.specs.Changes.{place_cmp, AreByPlace, AreChanges, is_same_link, metric_among}
@@ -18,14 +16,14 @@ use Rattle.ls_graph.proofs.Edits.{same_arcs}
 use Rattle.ls_graph.proofs.Links.{one_link, link_itself, link_back, link_congr, same_arc, metric_of, metric_by_place}
 use Rattle.ls_spf.specs.declared.table.PathRow.{PathRow}
 use Rattle.ls_spf.specs.Least.{least_cost, first_interfaces, add_up_to}
-use Rattle.ls_spf.specs.Local.{HaveCosts, IsTight, IsRelaxed, AreLocal, handed_on}
+use Rattle.ls_spf.specs.Local.{IsTight, IsRelaxed, AreLocal, handed_on}
 use Rattle.ls_spf.specs.Slack.{cost_of, is_slack_between, is_slack_at, is_slack_change, SlackChangesKeepRight}
-use Rattle.ls_spf.specs.Table.{AreArcs, IsRight, row_of, right_row, ends_least, tight_arcs}
+use Rattle.ls_spf.specs.Table.{AreArcs, IsRight, right_row, ends_least, tight_arcs}
 use Rattle.ls_spf.proofs.Back.{least_is_local}
 use Rattle.ls_spf.proofs.Certificate.{local_is_least}
 use Rattle.ls_spf.proofs.Exact.{sum_from_test}
 use Rattle.ls_spf.proofs.Hops.{union_at, union_is_first}
-use Rattle.ls_spf.proofs.Listed.{none_among, both_true, each_passes, found_in_filter, kept_in_filter}
+use Rattle.ls_spf.proofs.Listed.{both_true, each_passes, found_in_filter, kept_in_filter}
 use Rattle.ls_spf.proofs.Making.{same_names, named_alike, first_in_order, row_is}
 
 -- ---- what is slack by costs
@@ -101,7 +99,7 @@ slack_by_rows rows costs are c a same o metric slack n from =
     let end : cost_of rows c.to ≡ costs a.to = are c.to ∙ ap costs link.to in
     let at : is_slack_at rows c (Some a.metric) ≡ true = ap (is_slack_at rows c) (sym metric) ∙ slack in
     let test : is_slack_between (Some n) a.metric (costs a.to) ≡ true =
-        ap (λ p. is_slack_between p a.metric (costs a.to)) (sym start) ∙ (ap (λ p. is_slack_between (cost_of rows c.from) a.metric p) (sym end) ∙ at) in
+    ap (λ p. is_slack_between p a.metric (costs a.to)) (sym start) ∙ (ap (λ p. is_slack_between (cost_of rows c.from) a.metric p) (sym end) ∙ at) in
     let r = end_above (costs a.to) n a.metric test in
     record { end = r.0; to = r.1; more = r.2 }
 
@@ -221,8 +219,7 @@ module _ (before after : List Arc) (me : List ℕ) (are : AreArcs before) (are' 
   handed q k interface is =
       let at = costs q ∙ is in
       let u = union_at before me (λ a i. (are.metrics a i).0) q interface k at (first_interfaces before me) (λ v j l e. (λ c. c, λ c. c)) in
-      let same = tight q k at in
-      (
+      let same = tight q k at in (
         λ c. subst (λ z. Contains (flat_map (handed_on me (first_interfaces before me)) z) interface) same (u.1 c),
         λ c. u.0 (subst (λ z. Contains (flat_map (handed_on me (first_interfaces before me)) z) interface) (sym same) c),
       )

@@ -11,7 +11,8 @@ use Rattle.ls_spf.specs.Table.{AreArcs, IsRight, row_of}
 abbrev pub cost_of : List (List ℕ × PathRow) → List ℕ → Option ℕ
 cost_of rows node = option_map (λ r. r.cost) (row_of rows node)
 
--- an arc of this metric from a node of the one cost to a node of the other is the last of no least walk: none reaches its start, or others reach its end for less
+-- an arc of this metric from a node of the one cost to a node of the other is the last of no least walk: no walk reaches its
+-- start, or other walks reach its end for less
 abbrev pub is_slack_between : Option ℕ → ℕ → Option ℕ → Bool
 is_slack_between None metric end = true
 is_slack_between (Some start) metric None = false

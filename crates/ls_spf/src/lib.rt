@@ -5,6 +5,8 @@
 //! interfaces by which the least walks to it begin (`specs/Walk.antt`). The definitions that contracts cite are functions
 //! of the arcs (`specs/Least.antt`, `specs/Table.antt`), and `walks_are_least` ensures that they say the same as the
 //! words (`specs/Law.antt`). `local_is_right` ensures that what holds at each arc and each node alone is enough.
+//! `slack_changes_keep_right` ensures that a table stays right where no arc that changes is on a least walk
+//! (`specs/Slack.antt`), which `PathTable::stays` tells.
 //!
 //! `search` finds the costs, the cheapest node first. `rows` makes the rows, in the order of costs: the tight arcs of all
 //! nodes by one walk over the arcs, and the hops of a node from those of the nodes before it. `scratch` puts the two
@@ -36,8 +38,8 @@ pub fn local_is_right()
     ensures hops { UnionIsFirst }
 {}
 
-/// A table that is right for some arcs is right for others too, where all that changes between them are arcs that are the
-/// last of no least walk, before or after. It does nothing.
+/// A table that is right for some arcs is right for others too, where no arc that changes between them is on a least walk,
+/// before or after. It does nothing.
 pub fn slack_changes_keep_right()
     ensures { SlackChangesKeepRight }
 {}

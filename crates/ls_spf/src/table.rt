@@ -36,8 +36,8 @@ impl Model for PathTable {
     ghost view = { λ table. record { me = table.me; rows = table.rows.entries } };
 }
 
-/// An arc of this metric from a node of the cost `start` to one of the cost `end` is the last of no least walk: none
-/// reaches its start, or others reach its end for less.
+/// An arc of this metric from a node of the cost `start` to one of the cost `end` is the last of no least walk: no
+/// walk reaches its start, or other walks reach its end for less.
 fn is_slack_between(start: Option<u64>, metric: u32, end: Option<u64>) -> bool
     ensures { result ≡ is_slack_between start metric end }
 {
@@ -110,8 +110,8 @@ impl PathTable {
         self.is_slack_at(&change.arc, change.old) && self.is_slack_at(&change.arc, change.new)
     }
 
-    /// None of the changed arcs is the last of a least walk, before or after, so that a table that is right before these
-    /// changes is right after them.
+    /// None of the changed arcs is on a least walk, before or after, so that a table that is right before these changes is
+    /// right after them (`slack_changes_keep_right`). It takes no memory.
     pub fn stays(&self, changes: &[LinkChange]) -> bool
         ensures { result ≡ list_all (is_slack_change self.now.rows) changes.now }
     {
