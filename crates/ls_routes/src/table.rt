@@ -1,4 +1,4 @@
-ghost use Rattle.std.specs.Prelude.{◌≡◌, [], ◌∷◌, ◌++◌, fold, map, is_none, not, IfOk, OnOk, option_map, length, ◌==◌, if◌then◌else◌};
+ghost use Rattle.std.specs.Prelude.{◌≡◌, [], ◌∷◌, ◌++◌, fold, map, is_none, not, IfOk, OnOk, OnErr, option_map, length, ◌==◌, if◌then◌else◌};
 ghost use Rattle.std.specs.List.{filter};
 ghost use Rattle.ls_routes.specs.Routes.{IsTable, route_to, without_route, with_route, applied, are_same_names, is_same_route, stands_in, delta_between};
 
@@ -141,9 +141,10 @@ impl RouteDb {
         self.routes.get(prefix)
     }
 
-    /// The route takes the place of the one to its prefix.
+    /// The route takes the place of the one to its prefix. Out of memory, the routes are as before.
     pub fn set(&mut self, route: Route) -> Result<(), NoMemory>
-        ensures { OnOk result (self.new ≡ with_route self.old route) }
+        ensures ok { OnOk result (self.new ≡ with_route self.old route) }
+        ensures err { OnErr result (self.new ≡ self.old) }
     {
         self.routes.insert(route.prefix, route)?;
         Ok(())
