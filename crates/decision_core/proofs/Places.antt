@@ -1,40 +1,41 @@
 -- A route is the one before where the offers for its prefix, and least walks to the nodes that offer it, are those before. So
 -- all that changes is what changes at the places that an entry may touch.
 use Rattle.std.proofs.Common.{◌≡◌, ℕ, List, [], ◌∷◌, ◌++◌, Bool, true, false, cond, Option, Some, None, map, fold, refl, sym, ap, ◌∙◌, subst}
-use Rattle.std.specs.Prelude.{option_map, not, ◌&&◌, ◌||◌, ◌==◌}
+use Rattle.std.specs.Prelude.{option_map, not, ◌||◌}
+use Rattle.std.specs.Option.{option_map_or}
 use Rattle.std.specs.List.{Contains, flat_map, filter, filter_map, cons_option, list_any}
+use Rattle.std.specs.List.Sorted.{IsStrictlySortedBy}
 use Rattle.std.specs.BTreeMap.{is_at}
 use Rattle.std.specs.BTreeSet.{insert_key}
 use Rattle.std.proofs.lemmas.Bool.{and_parts, or_parts, eqb-true, false≢true}
-use Rattle.std.proofs.lemmas.List.Kept.{IsStrictlySortedBy-filter}
 use Rattle.std.proofs.lemmas.Slice.Eq.{bytes_eq-Decides, slice_eq-Decides}
 use Rattle.or_base.specs.Order.{bytes_cmp}
 use Rattle.or_base.specs.Prefixes.{prefix_cmp, is_same_prefix}
+use Rattle.or_base.specs.declared.database.PrefixDb.{PrefixDb}
 use Rattle.or_base.specs.declared.database.PrefixEntry.{PrefixEntry}
 use Rattle.or_base.specs.declared.prefix.Prefix.{Prefix}
-use Rattle.or_base.specs.declared.route.Delta.{Delta}
 use Rattle.or_base.specs.declared.route.Route.{Route}
 use Rattle.or_base.proofs.Members.{Contains-first, Contains-later}
 use Rattle.ls_spf.specs.declared.table.PathRow.{PathRow}
 use Rattle.ls_spf.specs.Least.{least_cost, first_interfaces}
-use Rattle.ls_spf.specs.Table.{row_of, hops_of, IsRight}
+use Rattle.ls_spf.specs.Table.{row_of, AreArcs, IsRight}
 use Rattle.ls_select.specs.Selection.{select}
 use Rattle.ls_select.specs.declared.offer.Offer.{Offer}
 use Rattle.ls_select.specs.declared.offer.Selected.{Selected}
-use Rattle.ls_select.proofs.Picked.{of_given, none_passes, some_passes, is_tested, is_kept, none_in_nothing}
+use Rattle.ls_select.proofs.Picked.{of_given, none_passes}
 use Rattle.ls_select.proofs.Sound.{selection_is_sound}
-use Rattle.ls_routes.specs.Routes.{IsTable, route_to, is_listed, is_gone, route_set, delta_between, delta_at, applied, are_same_names}
+use Rattle.ls_routes.specs.Routes.{route_to, is_listed, is_gone, route_set, delta_between, delta_at, applied, are_same_names}
 use Rattle.ls_routes.proofs.Leading.{deltas_lead_on}
 use Rattle.ls_routes.proofs.Places.{places_give_the_delta}
 use Rattle.ls_records.specs.declared.change.RecordChange.{RecordChange}
-use Rattle.ls_records.specs.Records.{advertisers, advertised_prefixes}
-use Rattle.ls_records.specs.Change.{KnownRecords, is_overloaded, Covers}
-use Rattle.ls_records.proofs.Told.{prefix_tests, same_prefix}
-use Rattle.ls_records.proofs.Listing.{advertised_have_advertisers}
-use Rattle.decision_core.specs.Scratch.{offer_of, offers_for, hops_to, route_over, route_for, routes_over}
-use Rattle.decision_core.specs.Reach.{is_same_cost, is_reached_alike, has_moved, IsRightElsewhere}
+use Rattle.ls_records.specs.Records.{advertisers}
+use Rattle.ls_records.specs.Change.{KnownRecords, is_overloaded, is_that, TellsAll}
+use Rattle.ls_records.proofs.Told.{prefix_tests}
+use Rattle.decision_core.specs.Scratch.{offer_of, offers_for, route_over, route_for, routes_over}
+use Rattle.decision_core.specs.Reach.{is_same_reach, has_moved, with_prefixes, with_touched, IsRightElsewhere, IsRightAfter}
 use Rattle.decision_core.proofs.Paths.{cost_told, hops_told}
 use Rattle.decision_core.proofs.Tables.{table_over, found_over}
+use Rattle.decision_core.proofs.Touched.{none_touched, out_of_both, out_of_all, untouched}
 
 -- ---- lists whose elements are treated alike
 
@@ -54,14 +55,14 @@ same_flat f g (x ∷ xs) same =
 pub record IsOfferedAlike (before after : KnownRecords) (p : Prefix) : Type 0 where
   pub me : after.me ≡ before.me
   pub advertisers_same : advertisers after.prefixes p ≡ advertisers before.prefixes p
-  pub overload : (node : List ℕ) → is_overloaded after.links node ≡ is_overloaded before.links node
+  pub overload : (e : List ℕ × PrefixEntry) → Contains (advertisers after.prefixes p) e → is_overloaded after.links e.0 ≡ is_overloaded before.links e.0
   pub costs : (e : List ℕ × PrefixEntry) → Contains (advertisers after.prefixes p) e → least_cost after.arcs after.me e.0 ≡ least_cost before.arcs before.me e.0
   pub hops : (e : List ℕ × PrefixEntry) → Contains (advertisers after.prefixes p) e → first_interfaces after.arcs after.me e.0 ≡ first_interfaces before.arcs before.me e.0
 
 module _ (before after : KnownRecords) (p : Prefix) (alike : IsOfferedAlike before after p) where
   same_offer : (e : List ℕ × PrefixEntry) → Contains (advertisers after.prefixes p) e → offer_of after e ≡ offer_of before e
   same_offer e among =
-      let overload = alike.overload e.0 in
+      let overload = alike.overload e among in
       let cost = alike.costs e among in
       λ i. record { node = e.0; entry = e.1; overload = overload i; cost = cost i }
 
@@ -103,104 +104,91 @@ unlisted p (q ∷ places) out =
     let parts = or_parts (is_at (prefix_cmp p) q) (is_listed places p) out in
     ap (λ first. first || list_any (is_same_prefix p) places) (sym (prefix_tests p q) ∙ parts.0) ∙ unlisted p places parts.1
 
-module _ (before after : KnownRecords) (c : RecordChange) (covers : Covers before after c) (me : after.me ≡ before.me) (overload : c.overload ≡ false) where
-  -- where no arc changes, the prefixes with other advertisers
-  pub right_but_changed : c.arcs ≡ false → IsRightElsewhere (routes_over before) after c.prefixes.items
-  right_but_changed arcs = record {
+-- least walks to the node are those before
+abbrev IsReachedAlike : KnownRecords → KnownRecords → List ℕ → Type 0
+IsReachedAlike before after node =
+    (least_cost after.arcs after.me node ≡ least_cost before.arcs before.me node) × (first_interfaces after.arcs after.me node ≡ first_interfaces before.arcs before.me node)
+
+-- the prefixes of the change, and those that the node advertises which it names, and those of all that moved
+abbrev placed : (List ℕ → Bool) → RecordChange → List (List ℕ × PrefixDb) → List Prefix
+placed moved c records = with_touched moved (with_touched (is_that c.transit) (with_prefixes [] c.prefixes.items) records) records
+
+module _ (before after : KnownRecords) (c : RecordChange) (tells : TellsAll before after c) (me : after.me ≡ before.me) (moved : List ℕ → Bool)
+    (alike : (node : List ℕ) → moved node ≡ false → IsReachedAlike before after node) where
+  same_elsewhere : (p : Prefix) → is_listed (placed moved c after.prefixes) p ≡ false → route_for after p ≡ route_for before p
+  same_elsewhere p out =
+      let first = out_of_all moved p after.prefixes (with_touched (is_that c.transit) (with_prefixes [] c.prefixes.items) after.prefixes) out in
+      let second = out_of_all (is_that c.transit) p after.prefixes (with_prefixes [] c.prefixes.items) first.0 in
+      let third = out_of_both p c.prefixes.items [] second.0 in
+      let still = none_passes (λ (a : List ℕ × PrefixEntry). moved a.0) (advertisers after.prefixes p) in
+      let unnamed = none_passes (λ (a : List ℕ × PrefixEntry). is_that c.transit a.0) (advertisers after.prefixes p) in
+      let none_moved = untouched moved p after.prefixes first.1 in
+      let none_named = untouched (is_that c.transit) p after.prefixes second.1 in
+      route_stays before after p
+      (record {
+        me = me;
+        advertisers_same = tells.prefixes p (unlisted p c.prefixes.items third.1);
+        overload = λ e among. tells.transit e.0 (unnamed e none_named among);
+        costs = λ e among. (alike e.0 (still e none_moved among)).0;
+        hops = λ e among. (alike e.0 (still e none_moved among)).1;
+      })
+
+  pub right_at_places : (places : List Prefix) → places ≡ placed moved c after.prefixes → IsStrictlySortedBy prefix_cmp places → IsRightElsewhere (routes_over before) after places
+  right_at_places places is in_order = record {
     table = table_over before;
-    in_order = covers.in_order;
-    elsewhere =
-        λ p out.
-        found_over before p
-        ∙ sym
-        (route_stays before after p
-        (record {
-          me = me;
-          advertisers_same = covers.prefixes p (unlisted p c.prefixes.items out);
-          overload = covers.overload overload;
-          costs = λ e among. ap (λ all. least_cost all after.me e.0) (covers.arcs arcs) ∙ ap (λ n. least_cost before.arcs n e.0) me;
-          hops = λ e among. ap (λ all. first_interfaces all after.me e.0) (covers.arcs arcs) ∙ ap (λ n. first_interfaces before.arcs n e.0) me;
-        }));
+    in_order = in_order;
+    elsewhere = λ p out. found_over before p ∙ sym (same_elsewhere p (ap (λ all. is_listed all p) (sym is) ∙ out));
   }
 
--- the same, as it is met in a turn
-pub right_at_changed : (before after : KnownRecords) (c : RecordChange) (routes : List (Prefix × Route)) (places : List Prefix) → Covers before after c → after.me ≡ before.me
-    → c.overload ≡ false → c.arcs ≡ false → routes ≡ routes_over before → places ≡ c.prefixes.items → IsRightElsewhere routes after places
-right_at_changed before after c routes places covers me overload arcs routed placed =
-    subst (λ all. IsRightElsewhere all after places) (sym routed)
-    (subst (IsRightElsewhere (routes_over before) after) (sym placed) (right_but_changed before after c covers me overload arcs))
+-- ---- which nodes moved
 
--- ---- the places whose advertisers are reached otherwise
-
-same_cost : (m n : Option ℕ) → is_same_cost m n ≡ true → m ≡ n
-same_cost None None e = refl
-same_cost None (Some n) e = cc e
-same_cost (Some m) None e = cc e
-same_cost (Some m) (Some n) e = ap Some (eqb-true m n e)
+same_reach : (r s : Option PathRow) → is_same_reach r s ≡ true
+    → (option_map (λ (row : PathRow). row.cost) r ≡ option_map (λ (row : PathRow). row.cost) s)
+    × (option_map_or (λ (row : PathRow). row.hops) r [] ≡ option_map_or (λ (row : PathRow). row.hops) s [])
+same_reach None None e = (refl, refl)
+same_reach None (Some s) e = absurd (false≢true e)
+same_reach (Some r) None e = absurd (false≢true e)
+same_reach (Some r) (Some s) e =
+    let parts = and_parts _ _ e in (ap Some (eqb-true r.cost s.cost parts.0), (slice_eq-Decides bytes_eq-Decides r.hops s.hops (are_same_names r.hops s.hops) refl).0 parts.1)
 
 not_false : (b : Bool) → not b ≡ false → b ≡ true
 not_false true e = refl
 not_false false e = cc e
 
-module _ (before after : KnownRecords) (rows others : List (List ℕ × PathRow)) (right : IsRight before.arcs before.me rows) (right' : IsRight after.arcs after.me others) where
-  reached_alike : (node : List ℕ) → is_reached_alike rows others node ≡ true
-      → (least_cost after.arcs after.me node ≡ least_cost before.arcs before.me node) × (first_interfaces after.arcs after.me node ≡ first_interfaces before.arcs before.me node)
-  reached_alike node e =
-      let parts = and_parts _ _ e in
-      let cost = same_cost (option_map (λ (r : PathRow). r.cost) (row_of rows node)) (option_map (λ (r : PathRow). r.cost) (row_of others node)) parts.0 in
-      let hops = (slice_eq-Decides bytes_eq-Decides (hops_of rows node) (hops_of others node) (are_same_names (hops_of rows node) (hops_of others node)) refl).0 parts.1 in (
-        sym (cost_told after.arcs after.me others node right') ∙ sym cost ∙ cost_told before.arcs before.me rows node right,
-        sym (hops_told after.arcs after.me others node right') ∙ sym hops ∙ hops_told before.arcs before.me rows node right,
-      )
+reached_alike : (before after : KnownRecords) (rows others : List (List ℕ × PathRow)) → IsRight before.arcs before.me rows → IsRight after.arcs after.me others → (node : List ℕ)
+    → has_moved rows others node ≡ false → IsReachedAlike before after node
+reached_alike before after rows others right right' node e =
+    let same = same_reach (row_of rows node) (row_of others node) (not_false (is_same_reach (row_of rows node) (row_of others node)) e) in (
+      sym (cost_told after.arcs after.me others node right') ∙ sym same.0 ∙ cost_told before.arcs before.me rows node right,
+      sym (hops_told after.arcs after.me others node right') ∙ sym same.1 ∙ hops_told before.arcs before.me rows node right,
+    )
 
-  -- a prefix that somebody advertises is among the advertised ones
-  listed_if : (p : Prefix) (listed : Bool) → is_listed (advertised_prefixes after.prefixes) p ≡ listed → (e : List ℕ × PrefixEntry)
-      → Contains (advertisers after.prefixes p) e → is_listed (advertised_prefixes after.prefixes) p ≡ true
-  listed_if p true is e among = is
-  listed_if p false is e among =
-      absurd (none_in_nothing e (subst (λ all. Contains all e) (advertised_have_advertisers.none after.prefixes p is) among))
+-- a table that is made anew
+pub right_with_moved : (before after : KnownRecords) (rows others : List (List ℕ × PathRow)) (c : RecordChange) (places : List Prefix) → IsRight before.arcs before.me rows
+    → AreArcs after.arcs → IsRight after.arcs after.me others → TellsAll before after c → after.me ≡ before.me → places ≡ placed (has_moved rows others) c after.prefixes
+    → IsStrictlySortedBy prefix_cmp places → IsRightAfter before after others places
+right_with_moved before after rows others c places right arcs right' tells me is in_order = record {
+  arcs = arcs;
+  rows_right = right';
+  routes_right =
+      right_at_places before after c tells me (has_moved rows others) (reached_alike before after rows others right right') places is in_order;
+}
 
-  -- a prefix that isn't among these has no advertiser that moved
-  stays_out : (p : Prefix) (moved : Bool) → has_moved rows others after p ≡ moved
-      → is_listed (filter (has_moved rows others after) (advertised_prefixes after.prefixes)) p ≡ false → has_moved rows others after p ≡ false
-  stays_out p false e out = e
-  stays_out p true e out =
-      let some = some_passes (λ (a : List ℕ × PrefixEntry). not (is_reached_alike rows others a.0)) (advertisers after.prefixes p) e in
-      let listed = some_passes (is_at (prefix_cmp p)) (advertised_prefixes after.prefixes) (listed_if p (is_listed (advertised_prefixes after.prefixes) p) refl some.0 some.1) in
-      let same = same_prefix p listed.0 listed.2 in
-      let kept = is_kept (has_moved rows others after) (advertised_prefixes after.prefixes) listed.0 listed.1 (ap (has_moved rows others after) (sym same) ∙ e) in
-      let found = is_tested (is_at (prefix_cmp p)) (filter (has_moved rows others after) (advertised_prefixes after.prefixes)) listed.0 kept listed.2 in
-      absurd (false≢true (sym out ∙ found))
-
-  pub right_but_moved : (c : RecordChange) → Covers before after c → after.me ≡ before.me → c.overload ≡ false → c.prefixes.items ≡ []
-      → IsRightElsewhere (routes_over before) after (filter (has_moved rows others after) (advertised_prefixes after.prefixes))
-  right_but_moved c covers me overload none = record {
-    table = table_over before;
-    in_order = IsStrictlySortedBy-filter prefix_cmp (has_moved rows others after) (advertised_prefixes after.prefixes) (advertised_have_advertisers.in_order after.prefixes);
-    elsewhere =
-        λ p out.
-        let each = none_passes (λ (a : List ℕ × PrefixEntry). not (is_reached_alike rows others a.0)) (advertisers after.prefixes p) in
-        let still = stays_out p (has_moved rows others after p) refl out in
-        let reached : (e : List ℕ × PrefixEntry) → Contains (advertisers after.prefixes p) e → is_reached_alike rows others e.0 ≡ true =
-        λ e among. not_false (is_reached_alike rows others e.0) (each e still among) in
-        found_over before p
-        ∙ sym
-        (route_stays before after p
-        (record {
-          me = me;
-          advertisers_same = covers.prefixes p (ap (list_any (is_same_prefix p)) none);
-          overload = covers.overload overload;
-          costs = λ e among. (reached_alike e.0 (reached e among)).0;
-          hops = λ e among. (reached_alike e.0 (reached e among)).1;
-        }));
-  }
-
-pub right_at_moved : (before after : KnownRecords) (rows others : List (List ℕ × PathRow)) (c : RecordChange) (routes : List (Prefix × Route)) (places : List Prefix)
-    → IsRight before.arcs before.me rows → IsRight after.arcs after.me others → Covers before after c → after.me ≡ before.me → c.overload ≡ false → c.prefixes.items ≡ []
-    → routes ≡ routes_over before → places ≡ filter (has_moved rows others after) (advertised_prefixes after.prefixes) → IsRightElsewhere routes after places
-right_at_moved before after rows others c routes places right right' covers me overload none routed placed =
-    subst (λ all. IsRightElsewhere all after places) (sym routed)
-    (subst (IsRightElsewhere (routes_over before) after) (sym placed) (right_but_moved before after rows others right right' c covers me overload none))
+-- a table that is still right
+pub right_as_before : (before after : KnownRecords) (rows : List (List ℕ × PathRow)) (c : RecordChange) (places : List Prefix) → IsRight before.arcs before.me rows
+    → AreArcs after.arcs → IsRight after.arcs after.me rows → TellsAll before after c → after.me ≡ before.me → places ≡ with_touched (is_that c.transit) (with_prefixes [] c.prefixes.items) after.prefixes
+    → IsStrictlySortedBy prefix_cmp places → IsRightAfter before after rows places
+right_as_before before after rows c places right arcs right' tells me is in_order = record {
+  arcs = arcs;
+  rows_right = right';
+  routes_right =
+      right_at_places before after c tells me (λ node. false)
+      (λ node e. (
+        sym (cost_told after.arcs after.me rows node right') ∙ cost_told before.arcs before.me rows node right,
+        sym (hops_told after.arcs after.me rows node right') ∙ hops_told before.arcs before.me rows node right,
+      ))
+      places (is ∙ sym (none_touched after.prefixes (with_touched (is_that c.transit) (with_prefixes [] c.prefixes.items) after.prefixes))) in_order;
+}
 
 -- ---- the change
 

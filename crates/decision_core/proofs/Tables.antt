@@ -1,11 +1,10 @@
 -- The routes from scratch are a table, which has for each prefix its route.
-use Rattle.std.proofs.Common.{◌≡◌, ℕ, List, [], ◌∷◌, Bool, true, false, cond, Option, Some, None, map, refl, sym, ap, ◌∙◌, option_map}
-use Rattle.or_base.specs.declared.entry.JournalEntry.{JournalEntry}
+use Rattle.std.proofs.Common.{◌≡◌, ℕ, List, [], Bool, true, false, cond, Option, Some, None, map, refl, sym, ap, ◌∙◌, option_map}
 use Rattle.or_base.specs.declared.prefix.Prefix.{Prefix}
 use Rattle.or_base.specs.declared.route.Route.{Route}
 use Rattle.ls_select.specs.Selection.{select, best_offers}
 use Rattle.ls_select.specs.declared.offer.Selected.{Selected}
-use Rattle.ls_routes.specs.Routes.{IsTable, route_to, is_listed, routes_changed}
+use Rattle.ls_routes.specs.Routes.{IsTable, route_to, is_listed}
 use Rattle.ls_routes.proofs.Tables.{no_routes}
 use Rattle.ls_routes.proofs.Chosen.{table_after, found_after}
 use Rattle.ls_records.specs.Records.{advertised_prefixes}

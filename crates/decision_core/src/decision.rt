@@ -6,6 +6,8 @@ ghost use Rattle.ls_records.specs.Change.{known_after};
 ghost use Rattle.decision_core.specs.Decision.{new_decision, is_no_change, told_routes, decision_step, routes_of, route_at, route_told, answer};
 
 use crate::from_scratch::scratch;
+use crate::history::{History, route_then};
+use crate::route::copied_route;
 use crate::routing::Routing;
 use ls_records::each_entry_is_taken;
 use ls_routes::RouteDb;
@@ -23,18 +25,21 @@ pub struct DecisionModule {
     taken: Vec<JournalEntry>,
     /// What follows from them. It is gone once memory ran out in a turn.
     routing: Option<Routing>,
+    /// The routes that the last of them replaced.
+    history: History,
 }
 
 impl Model for DecisionModule {
     ghost use Rattle.std.specs.Prelude.{◌≡◌, IfSome};
     ghost use Rattle.ls_records.specs.Change.{known_after};
     ghost use Rattle.decision_core.specs.Decision.{DecisionState};
+    ghost use Rattle.decision_core.specs.History.{TellRoutes};
 
     ghost Value = { DecisionState };
 
     ghost view = { λ m. record { me = m.me; taken = m.taken.items } };
 
-    ghost invariant = { λ m. IfSome m.routing (λ r. r ≡ known_after m.me m.taken.items) };
+    ghost invariant = { λ m. IfSome m.routing (λ r. (r ≡ known_after m.me m.taken.items) × TellRoutes m.history m.me m.taken.items) };
 }
 
 /// Nothing changes.
@@ -68,6 +73,7 @@ impl DecisionModule {
             me,
             taken: Vec::new(alloc),
             routing: Some(routing),
+            history: History::new(alloc, 0),
         })
     }
 
@@ -104,8 +110,8 @@ impl DecisionModule {
         }
     }
 
-    /// The route to exactly this prefix from scratch over the first `at` entries that it took, or over all. Over all it is the
-    /// route that is kept; over fewer it is computed.
+    /// The route to exactly this prefix from scratch over the first `at` entries that it took, or over all. Over all, or over
+    /// as many as when routes that are kept were replaced, it is found; over fewer it is computed.
     #[tactic(auto, using(crate::proofs::Steps::whole_at))]
     pub fn route_at(&self, at: u64, prefix: &Prefix) -> Result<Option<Route>, NoMemory>
         ensures { IfOk result (λ route. route ≡ route_at self.now at prefix.now) }
@@ -113,8 +119,14 @@ impl DecisionModule {
         if at >= self.fed() {
             return copied_route(self.routes()?, prefix);
         }
-        let routes = scratch(self.alloc, &self.me, &self.taken[..at as usize])?;
-        copied_route(&routes, prefix)
+        let Some(routing) = &self.routing else {
+            return Err(NoMemory);
+        };
+        if at < self.history.since() {
+            let routes = scratch(self.alloc, &self.me, &self.taken[..at as usize])?;
+            return copied_route(&routes, prefix);
+        }
+        Ok(route_then(&self.history, routing.routes(), at, prefix)?)
     }
 
     /// The answer to a question for the route to exactly this prefix, of whoever has seen so many entries of the journal.
@@ -130,6 +142,15 @@ impl DecisionModule {
         Ok(route_told(route))
     }
 
+    /// Forgets the replaced routes once as many are kept as may be.
+    fn forget_if_full(&mut self)
+        ensures { self.new ≡ self.old }
+    {
+        if self.history.is_full() {
+            self.history = History::new(self.alloc, self.taken.len() as u64);
+        }
+    }
+
     /// One turn with an entry. What changes goes into `out`.
     #[tactic(auto, unfolding(crate::specs::Decision::decision_step, crate::specs::Scratch::scratch))]
     fn take(&mut self, entry: JournalEntry, out: &mut Outbox) -> Result<(), NoMemory>
@@ -140,9 +161,11 @@ impl DecisionModule {
         let Some(routing) = self.routing.take() else {
             return Err(NoMemory);
         };
-        let (after, delta) = routing.with_entry(&entry)?;
+        let entries = self.taken.len() as u64;
+        let (after, delta) = routing.with_entry(&entry, entries, &mut self.history)?;
         self.taken.push(entry)?;
         self.routing = Some(after);
+        self.forget_if_full();
         tell(delta, out)
     }
 }
@@ -154,16 +177,6 @@ pub fn route_told(route: Option<Route>) -> Told
     match route {
         Some(route) => Told::Route(route),
         None => Told::Nothing,
-    }
-}
-
-/// The route to exactly this prefix, if there is one.
-fn copied_route(routes: &RouteDb, prefix: &Prefix) -> Result<Option<Route>, NoMemory>
-    ensures { IfOk result (λ route. route ≡ route_to routes.now prefix.now) }
-{
-    match routes.route_of(prefix) {
-        Some(route) => Ok(Some(route.copied()?)),
-        None => Ok(None),
     }
 }
 

@@ -5,8 +5,9 @@
 //! them, and for each prefix the nodes that are selected of those that advertise it. A turn tells PrefixManager and Fib what
 //! changes (`specs/Decision.antt`). `DecisionModule` does exactly that.
 //!
-//! The files: `offers` (who offers a prefix), `route` (where one prefix is routed), `routing` (all that is known, with the
-//! routes that follow), `from_scratch` (the routes over some entries) and `decision` (the module).
+//! The files: `offers` (who offers a prefix), `route` (where one prefix is routed), `reach` (at which prefixes
+//! routes may be others after an entry), `changed` (what changes there), `routing` (all that is known, with the routes that
+//! follow), `history` (the routes that were replaced), `from_scratch` (the routes over some entries) and `decision` (the module).
 #![tactic(auto)]
 
 ghost use Rattle.decision_core.specs.Law.{RoutesAreByPrefix};
@@ -14,6 +15,7 @@ ghost use Rattle.decision_core.specs.Law.{RoutesAreByPrefix};
 mod changed;
 mod decision;
 mod from_scratch;
+mod history;
 mod offers;
 mod reach;
 mod route;

@@ -4,10 +4,12 @@ ghost use Rattle.std.specs.BTreeSet.{insert_key};
 ghost use Rattle.or_base.specs.Order.{bytes_cmp};
 ghost use Rattle.ls_spf.specs.Least.{first_interfaces};
 ghost use Rattle.ls_spf.specs.Table.{IsRight};
+ghost use Rattle.ls_routes.specs.Routes.{route_to};
 ghost use Rattle.decision_core.specs.Scratch.{hops_to, route_over, route_for};
 
 use crate::offers::offers_for;
 use ls_records::Records;
+use ls_routes::RouteDb;
 use ls_select::{Selected, select};
 use ls_spf::PathTable;
 use or_base::{Name, NoMemory, Prefix, Route, Seq};
@@ -102,6 +104,16 @@ pub fn route_for(
     let offers = offers_for(alloc, records, table, prefix)?;
     match select(alloc, records.me(), offers)? {
         Some(selected) => Ok(Some(route_over(alloc, records, table, prefix, &selected)?)),
+        None => Ok(None),
+    }
+}
+
+/// A copy of the route to exactly this prefix, if there is one among these.
+pub fn copied_route(routes: &RouteDb, prefix: &Prefix) -> Result<Option<Route>, NoMemory>
+    ensures { IfOk result (λ route. route ≡ route_to routes.now prefix.now) }
+{
+    match routes.route_of(prefix) {
+        Some(route) => Ok(Some(route.copied()?)),
         None => Ok(None),
     }
 }

@@ -1,17 +1,20 @@
 ghost use Rattle.std.specs.Prelude.{◌≡◌, [], IfOk, OnOk};
 ghost use Rattle.ls_spf.specs.Table.{AreArcs, IsRight};
-ghost use Rattle.ls_records.specs.Change.{known_after};
+ghost use Rattle.ls_records.specs.Change.{KnownRecords, TellsAll, known_after};
 ghost use Rattle.ls_records.specs.Step.{taken};
-ghost use Rattle.ls_routes.specs.Routes.{delta_between, route_changed};
-ghost use Rattle.decision_core.specs.Scratch.{routes_over};
-ghost use Rattle.decision_core.specs.Reach.{IsRightElsewhere};
+ghost use Rattle.ls_routes.specs.Routes.{delta_at, delta_between, route_changed, route_to};
+ghost use Rattle.decision_core.specs.Scratch.{route_for, routes_over};
+ghost use Rattle.decision_core.specs.History.{with_change};
+ghost use Rattle.decision_core.specs.Reach.{IsRightElsewhere, IsRightAfter};
 
 use crate::changed::delta_at;
-use crate::reach::moved_places;
+use crate::history::History;
+use crate::reach::{add_moved, changed_places, listed};
 use crate::route::route_for;
-use ls_records::Records;
+use ls_graph::Arc;
+use ls_records::{RecordChange, Records};
 use ls_routes::RouteDb;
-use ls_spf::{PathTable, paths};
+use ls_spf::{PathTable, paths, slack_changes_keep_right};
 use or_base::{Delta, JournalEntry, Name, NoMemory, Prefix, Route};
 use std::alloc::Global;
 use std::marker::Model;
@@ -28,25 +31,35 @@ pub struct Routing {
 impl Model for Routing {
     ghost use Rattle.std.specs.Prelude.{◌≡◌};
     ghost use Rattle.ls_records.specs.Change.{KnownRecords};
-    ghost use Rattle.ls_spf.specs.Table.{IsRight};
+    ghost use Rattle.ls_spf.specs.Table.{AreArcs, IsRight};
     ghost use Rattle.decision_core.specs.Scratch.{routes_over};
 
     ghost Value = { KnownRecords };
 
     ghost view = { λ r. r.records };
 
-    ghost invariant = { λ r. IsRight r.records.arcs r.records.me r.table.rows × (r.routes ≡ routes_over r.records) };
+    ghost invariant = { λ r. AreArcs r.records.arcs × IsRight r.records.arcs r.records.me r.table.rows × (r.routes ≡ routes_over r.records) };
 }
 
-/// The least walks of a node over the arcs that it may use. It refuses 2^31 arcs and more as too many for memory.
-pub fn table_over(alloc: Global, records: &Records) -> Result<PathTable, NoMemory>
-    ensures { IfOk result (λ table. IsRight records.now.arcs records.now.me table.rows) }
+/// The arcs that the node may use. It refuses 2^31 arcs and more as too many for memory.
+fn few_arcs(records: &Records) -> Result<&[Arc], NoMemory>
+    ensures arcs { IfOk result (λ arcs. arcs.now ≡ records.now.arcs) }
+    ensures few { IfOk result (λ arcs. AreArcs arcs.now) }
 {
     let arcs = records.arcs();
     if arcs.len() >= 1 << 31 {
         return Err(NoMemory);
     }
-    paths(alloc, records.me(), arcs)
+    Ok(arcs)
+}
+
+/// The least walks of a node over the arcs that it may use.
+pub fn table_over(alloc: Global, records: &Records) -> Result<PathTable, NoMemory>
+    ensures arcs { IfOk result (λ table. AreArcs records.now.arcs) }
+    ensures right { IfOk result (λ table. IsRight records.now.arcs records.now.me table.rows) }
+{
+    let arcs = few_arcs(records)?;
+    Ok(paths(alloc, records.me(), arcs)?)
 }
 
 /// The route takes the place of the one to the prefix, or nothing does.
@@ -98,10 +111,17 @@ impl Routing {
         &self.routes
     }
 
-    /// What is known with an entry more, and what changes of the routes.
-    pub fn with_entry(self, entry: &JournalEntry) -> Result<(Routing, Delta), NoMemory>
+    /// What is known with an entry more, which is taken after so many, and what changes of the routes. The routes that are
+    /// replaced go into the history.
+    pub fn with_entry(
+        self,
+        entry: &JournalEntry,
+        entries: u64,
+        history: &mut History,
+    ) -> Result<(Routing, Delta), NoMemory>
         ensures known { IfOk result (λ after. after.0 ≡ taken self entry.now) }
         ensures delta { IfOk result (λ after. after.1 ≡ delta_between (routes_over self) (routes_over after.0)) }
+        ensures kept { IfOk result (λ after. history.new ≡ with_change history.old entries (routes_over self) after.1) }
     {
         let Routing {
             mut records,
@@ -110,19 +130,46 @@ impl Routing {
             alloc,
         } = self;
         let change = records.take(entry)?;
-        if change.overload {
-            return anew(alloc, records, &routes);
+        if change.cleared {
+            let (after, delta) = anew(alloc, records, &routes)?;
+            history.keep(entries, &delta, &routes)?;
+            return Ok((after, delta));
         }
-        if !change.arcs {
-            return at_places(alloc, records, table, routes, change.prefixes.as_slice());
-        }
-        if !change.prefixes.is_empty() {
-            return anew(alloc, records, &routes);
-        }
-        let after = table_over(alloc, &records)?;
-        let places = moved_places(alloc, &table, &after, &records)?;
-        at_places(alloc, records, after, routes, places.as_slice())
+        let (after, places) = places_of(alloc, &records, table, &change)?;
+        let delta = delta_at(alloc, &records, &after, &routes, places.as_slice())?;
+        history.keep(entries, &delta, &routes)?;
+        let routing = at_places(alloc, records, after, routes, places.as_slice(), &delta)?;
+        Ok((routing, delta))
     }
+}
+
+/// The least walks by the records after this change, where they were these before, and the prefixes to which routes may be
+/// others. Walks are searched for only where some changed arc is, or may be, the last of a least one.
+fn places_of(
+    alloc: Global,
+    records: &Records,
+    before: PathTable,
+    change: &RecordChange,
+) -> Result<(PathTable, Vec<Prefix>), NoMemory>
+    ensures { IfOk result (λ p. (k : KnownRecords) → AreArcs k.arcs → IsRight k.arcs k.me before.rows → TellsAll k records.now change.now → records.now.me ≡ k.me
+        → IsRightAfter k records.now p.0.rows p.1.items) }
+{
+    slack_changes_keep_right();
+    let arcs = few_arcs(records)?;
+    let mut places = changed_places(
+        alloc,
+        records.prefix_records(),
+        change.prefixes.as_slice(),
+        change.transit.as_ref(),
+    )?;
+    if before.stays(change.links.as_slice()) {
+        let places = listed(alloc, &places)?;
+        return Ok((before, places));
+    }
+    let after = paths(alloc, records.me(), arcs)?;
+    add_moved(&mut places, records.prefix_records(), &before, &after)?;
+    let places = listed(alloc, &places)?;
+    Ok((after, places))
 }
 
 /// All routes by the records, and what changes from these.
@@ -142,7 +189,7 @@ fn anew(alloc: Global, records: Records, old: &RouteDb) -> Result<(Routing, Delt
     Ok((routing, delta))
 }
 
-/// The routes by the records, where they are these but at some places, and what changes there.
+/// The routes by the records, where they are these but at some places, and this changes there.
 #[tactic(auto, using(crate::proofs::Places::whole_change, crate::proofs::Places::change_leads))]
 fn at_places(
     alloc: Global,
@@ -150,19 +197,21 @@ fn at_places(
     table: PathTable,
     mut routes: RouteDb,
     places: &[Prefix],
-) -> Result<(Routing, Delta), NoMemory>
+    delta: &Delta,
+) -> Result<Routing, NoMemory>
+    requires arcs { AreArcs records.arcs }
     requires right { IsRight records.arcs records.me table.rows }
     requires elsewhere { IsRightElsewhere routes records places.now }
-    ensures known { IfOk result (λ after. after.0 ≡ records) }
-    ensures delta { IfOk result (λ after. after.1 ≡ delta_between routes (routes_over records)) }
+    requires delta { delta.now ≡ delta_at (route_to routes) (route_for records) places.now }
+    ensures known { IfOk result (λ after. after ≡ records) }
+    ensures whole { IfOk result (λ after. delta.now ≡ delta_between routes (routes_over records)) }
 {
-    let delta = delta_at(alloc, &records, &table, &routes, places)?;
-    routes.apply(&delta)?;
-    let routing = Routing {
+    let _places = places;
+    routes.apply(delta)?;
+    Ok(Routing {
         records,
         table,
         routes,
         alloc,
-    };
-    Ok((routing, delta))
+    })
 }

@@ -1,23 +1,30 @@
 -- What is known once something is held under a key: the records of its kind change, and those of the other kind stay.
-use Rattle.std.proofs.Common.{◌≡◌, ℕ, List, [], Bool, true, false, cond, Option, Some, None, refl, sym, ◌∙◌, ap, subst, codes}
+use Rattle.std.proofs.Common.{◌≡◌, ℕ, List, [], Bool, true, false, cond, Option, Some, None, refl, sym, ◌∙◌, ap, subst, codes, arith}
 use Rattle.std.specs.Prelude.{not}
 use Rattle.std.specs.Option.{option_map_or}
 use Rattle.std.specs.Bool.{beq}
+use Rattle.std.specs.Str.{bytes_eq}
 use Rattle.std.specs.Map.{lookup}
 use Rattle.std.specs.BTreeMap.{is_at}
 use Rattle.std.specs.List.Sorted.{IsStrictlySortedBy}
 use Rattle.std.proofs.lemmas.Bool.{false≢true}
+use Rattle.std.proofs.lemmas.Slice.Eq.{bytes_eq-Decides}
 use Rattle.or_base.specs.Order.{bytes_cmp}
 use Rattle.or_base.specs.Prefixes.{prefix_cmp}
 use Rattle.or_base.specs.declared.database.AdjDb.{AdjDb}
 use Rattle.or_base.specs.declared.database.PrefixDb.{PrefixDb}
+use Rattle.or_base.specs.declared.prefix.Prefix.{Prefix}
 use Rattle.or_base.specs.declared.value.KvValue.{KvValue}
 use Rattle.ls_graph.specs.Arcs.{usable_arcs}
+use Rattle.ls_graph.specs.Changes.{AreChanges}
 use Rattle.ls_graph.specs.State.{KnownLinks}
-use Rattle.ls_graph.proofs.Order.{same_name}
+use Rattle.ls_graph.specs.declared.arc.Arc.{Arc}
+use Rattle.ls_graph.specs.declared.change.LinkChange.{LinkChange}
+use Rattle.ls_graph.proofs.Order.{name_tests}
+use Rattle.ls_graph.proofs.Lists.{none_in_nothing}
 use Rattle.ls_records.specs.Records.{link_records, prefix_records, advertisers}
-use Rattle.ls_records.specs.Change.{KnownRecords, Covers, is_overloaded, known_after}
-use Rattle.ls_records.specs.Links.{CoversLinks, with_record}
+use Rattle.ls_records.specs.Change.{KnownRecords, KeepsAdvertisers, Covers, is_overloaded, is_that, known_after}
+use Rattle.ls_records.specs.Links.{CoversLinks, name_if, with_record}
 use Rattle.ls_records.specs.Step.{changed, changed_if, rest_after, link_record_under, prefix_record_under, links_with, prefixes_with, with_held}
 use Rattle.ls_records.specs.declared.change.RecordChange.{RecordChange}
 use Rattle.ls_records.proofs.Named.{AreByName, found_changed}
@@ -49,28 +56,24 @@ one_flag true false e = absurd (false≢true (sym e))
 one_flag false true e = absurd (false≢true (sym e))
 one_flag false false e = refl
 
--- where the node's own flag stays, those of all do
-flags_stay : (databases : List (List ℕ × AdjDb)) (node : List ℕ) (db : Option AdjDb) → AreByName databases → is_overloaded (changed databases node db) node ≡ is_overloaded databases node
-    → (other : List ℕ) → is_overloaded (changed databases node db) other ≡ is_overloaded databases other
-flags_stay databases node db ordered own other = by_name (is_at (bytes_cmp node) other) refl where
-  by_name : (here : Bool) → is_at (bytes_cmp node) other ≡ here → is_overloaded (changed databases node db) other ≡ is_overloaded databases other
-  by_name true e = subst (λ name. is_overloaded (changed databases node db) name ≡ is_overloaded databases name) (same_name node other e) own
-  by_name false e =
-      ap (λ found. option_map_or (λ (d : AdjDb). d.overload) found false)
-      (found_changed databases node db other ordered ∙ ap (λ t. cond t db (lookup (is_at (bytes_cmp other)) databases)) e)
+-- another node's flag stays
+flag_stays : (databases : List (List ℕ × AdjDb)) (node : List ℕ) (db : Option AdjDb) → AreByName databases → (other : List ℕ) → bytes_eq node other ≡ false
+    → is_overloaded (changed databases node db) other ≡ is_overloaded databases other
+flag_stays databases node db ordered other e =
+    ap (λ found. option_map_or (λ (d : AdjDb). d.overload) found false)
+    (found_changed databases node db other ordered ∙ ap (λ t. cond t db (lookup (is_at (bytes_cmp other)) databases)) (sym (name_tests node other) ∙ e))
 
 -- a link record in place of the one before
-pub covers_links : (before state after : KnownLinks) (node : List ℕ) (db : Option AdjDb) (differ was is : Bool) → state ≡ before → AreByName state.databases → after ≡ with_record state node db
-    → (differ ≡ false → after.in_force ≡ state.in_force) → was ≡ is_overloaded before.databases node → is ≡ is_overloaded after.databases node
-    → CoversLinks before after differ (not (beq was is))
-covers_links before state after node db differ was is shown ordered put same was_so is_so = record {
-  arcs = λ e. same e ∙ ap (λ k. k.in_force) shown;
-  overload = λ e other.
+pub covers_links : (before state after : KnownLinks) (node : List ℕ) (db : Option AdjDb) (changes : List LinkChange) (was is : Bool) → state ≡ before → AreByName state.databases
+    → after ≡ with_record state node db → AreChanges state.in_force after.in_force changes → was ≡ is_overloaded before.databases node → is ≡ is_overloaded after.databases node
+    → CoversLinks before after changes node (not (beq was is))
+covers_links before state after node db changes was is shown ordered put links was_so is_so = record {
+  links = subst (λ k. AreChanges k.in_force after.in_force changes) shown links;
+  others = λ other e.
       let databases : after.databases ≡ changed before.databases node db = ap (λ k. k.databases) put ∙ ap (λ k. changed k.databases node db) shown in
       let ordered' : AreByName before.databases = subst (λ k. AreByName k.databases) shown ordered in
-      let own : is_overloaded (changed before.databases node db) node ≡ is_overloaded before.databases node =
-      ap (λ ds. is_overloaded ds node) (sym databases) ∙ sym is_so ∙ sym (one_flag was is e) ∙ was_so in
-      ap (λ ds. is_overloaded ds other) databases ∙ flags_stay before.databases node db ordered' own other;
+      ap (λ ds. is_overloaded ds other) databases ∙ flag_stays before.databases node db ordered' other e;
+  own = λ e. sym is_so ∙ sym (one_flag was is e) ∙ was_so;
 }
 
 -- ---- what is held under a key
@@ -133,21 +136,52 @@ neither_held links prefixes k key value shown settled no_link no_prefix =
 
 -- ---- what changes
 
-pub covers_link : (links after : KnownLinks) (prefixes : List (List ℕ × PrefixDb)) (k : KnownRecords) (change : RecordChange) → both links prefixes ≡ k
-    → CoversLinks links after change.arcs change.overload → change.prefixes.items ≡ [] → Covers k (both after prefixes) change
+-- from arcs to the same arcs nothing changes
+pub no_changes : (arcs : List Arc) (changes : List LinkChange) → changes ≡ [] → AreChanges arcs arcs changes
+no_changes arcs changes none = subst (AreChanges arcs arcs) (sym none) (record {
+  sound = λ c among. absurd (none_in_nothing c among);
+  all = λ a among differ. absurd (differ refl);
+  in_order = λ i j d lt within. absurd (omega arith);
+})
+
+flags_told : (before after : KnownLinks) (changes : List LinkChange) (node : List ℕ) (differs : Bool) → CoversLinks before after changes node differs → (other : List ℕ)
+    → is_that (name_if differs node) other ≡ false → is_overloaded after.databases other ≡ is_overloaded before.databases other
+flags_told before after changes node true covers other e = covers.others other e
+flags_told before after changes node false covers other e = by_name (bytes_eq node other) refl where
+  by_name : (here : Bool) → bytes_eq node other ≡ here → is_overloaded after.databases other ≡ is_overloaded before.databases other
+  by_name true e = subst (λ name. is_overloaded after.databases name ≡ is_overloaded before.databases name) ((bytes_eq-Decides node other).0 e) (covers.own refl)
+  by_name false e = covers.others other e
+
+pub covers_link : (links after : KnownLinks) (prefixes : List (List ℕ × PrefixDb)) (k : KnownRecords) (node : List ℕ) (differs : Bool) (change : RecordChange) → both links prefixes ≡ k
+    → CoversLinks links after change.links.items node differs → change.transit ≡ name_if differs node → change.prefixes.items ≡ [] → Covers k (both after prefixes) change
 unfolding IsStrictlySortedBy
-covers_link links after prefixes k change shown covers none = record {
-  arcs = λ e. covers.arcs e ∙ ap (λ r. r.arcs) shown;
-  overload = λ e node. covers.overload e node ∙ ap (λ r. is_overloaded r.links node) shown;
+covers_link links after prefixes k node differs change shown covers told none any = record {
+  links = subst (λ r. AreChanges r.arcs after.in_force change.links.items) shown covers.links;
+  transit = λ other e.
+      flags_told links after change.links.items node differs covers other (ap (λ t. is_that t other) (sym told) ∙ e) ∙ ap (λ r. is_overloaded r.links other) shown;
   in_order = subst (IsStrictlySortedBy prefix_cmp) (sym none) tt;
   prefixes = λ p unlisted. ap (λ r. advertisers r.prefixes p) shown;
 }
 
-pub covers_none : (k : KnownRecords) (change : RecordChange) → change.prefixes.items ≡ [] → Covers k k change
+-- a change of prefixes alone
+pub covers_prefixes : (links : KnownLinks) (prefixes after : List (List ℕ × PrefixDb)) (k : KnownRecords) (change : RecordChange) (listed : List Prefix) → both links prefixes ≡ k
+    → change.links.items ≡ [] → change.prefixes.items ≡ listed → IsStrictlySortedBy prefix_cmp listed → KeepsAdvertisers prefixes after listed → Covers k (both links after) change
+covers_prefixes links prefixes after k change listed shown none is in_order keeps any = record {
+  links = subst (λ r. AreChanges r.arcs links.in_force change.links.items) shown (no_changes links.in_force change.links.items none);
+  transit = λ node e. ap (λ r. is_overloaded r.links node) shown;
+  in_order = subst (IsStrictlySortedBy prefix_cmp) (sym is) in_order;
+  prefixes = subst (λ r. KeepsAdvertisers r.prefixes after change.prefixes.items) shown (subst (KeepsAdvertisers prefixes after) (sym is) keeps);
+}
+
+pub covers_none : (k : KnownRecords) (change : RecordChange) → change.links.items ≡ [] → change.prefixes.items ≡ [] → Covers k k change
 unfolding IsStrictlySortedBy
-covers_none k change none = record {
-  arcs = λ e. refl;
-  overload = λ e node. refl;
+covers_none k change links none any = record {
+  links = no_changes k.arcs change.links.items links;
+  transit = λ node e. refl;
   in_order = subst (IsStrictlySortedBy prefix_cmp) (sym none) tt;
   prefixes = λ p unlisted. refl;
 }
+
+-- where no record is left nothing more is told
+pub covers_all : (before after : KnownRecords) (change : RecordChange) → change.cleared ≡ true → Covers before after change
+covers_all before after change all kept = absurd (false≢true (sym kept ∙ all))

@@ -1,14 +1,16 @@
 -- What an entry changes of the records: the arcs, which nodes take transit traffic, and who advertises which prefix.
-use Rattle.std.specs.Prelude.{◌≡◌, ℕ, List, Bool, false}
+use Rattle.std.specs.Prelude.{◌≡◌, ℕ, List, Option, Some, None, Bool, false}
 use Rattle.std.specs.List.{list_any}
 use Rattle.std.specs.List.Sorted.{IsStrictlySortedBy}
 use Rattle.std.specs.Option.{option_map_or}
+use Rattle.std.specs.Str.{bytes_eq}
 use Rattle.or_base.specs.Prefixes.{prefix_cmp, is_same_prefix}
 use Rattle.or_base.specs.declared.database.AdjDb.{AdjDb}
 use Rattle.or_base.specs.declared.database.PrefixDb.{PrefixDb}
 use Rattle.or_base.specs.declared.entry.JournalEntry.{JournalEntry}
 use Rattle.or_base.specs.declared.prefix.Prefix.{Prefix}
 use Rattle.ls_graph.specs.Arcs.{database_of, usable_arcs}
+use Rattle.ls_graph.specs.Changes.{AreChanges}
 use Rattle.ls_graph.specs.declared.arc.Arc.{Arc}
 use Rattle.ls_records.specs.Records.{link_records, prefix_records, advertisers}
 use Rattle.ls_records.specs.declared.change.RecordChange.{RecordChange}
@@ -35,9 +37,18 @@ abbrev pub KeepsAdvertisers : List (List ℕ × PrefixDb) → List (List ℕ × 
 KeepsAdvertisers before after listed =
     (prefix : Prefix) → list_any (is_same_prefix prefix) listed ≡ false → advertisers after prefix ≡ advertisers before prefix
 
--- the change covers what differs between two states of the records: where it says that something is as before it is
-pub record Covers (before after : KnownRecords) (c : RecordChange) : Type 0 where
-  pub arcs : c.arcs ≡ false → after.arcs ≡ before.arcs
-  pub overload : c.overload ≡ false → (node : List ℕ) → is_overloaded after.links node ≡ is_overloaded before.links node
+-- the name is this one, where there is one
+abbrev pub is_that : Option (List ℕ) → List ℕ → Bool
+is_that None node = false
+is_that (Some name) node = bytes_eq name node
+
+-- the change tells all that differs between two states of the records
+pub record TellsAll (before after : KnownRecords) (c : RecordChange) : Type 0 where
+  pub links : AreChanges before.arcs after.arcs c.links.items
+  pub transit : (node : List ℕ) → is_that c.transit node ≡ false → is_overloaded after.links node ≡ is_overloaded before.links node
   pub in_order : IsStrictlySortedBy prefix_cmp c.prefixes.items
   pub prefixes : KeepsAdvertisers before.prefixes after.prefixes c.prefixes.items
+
+-- and it does, unless no record is left
+abbrev pub Covers : KnownRecords → KnownRecords → RecordChange → Type 0
+Covers before after c = c.cleared ≡ false → TellsAll before after c

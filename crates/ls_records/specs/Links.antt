@@ -1,8 +1,11 @@
 -- The link records that a node knows, with the arcs that it may use by them.
-use Rattle.std.specs.Prelude.{◌≡◌, ℕ, List, [], Bool, false, Option, Some, None, IfSome}
+use Rattle.std.specs.Prelude.{◌≡◌, ℕ, List, [], Bool, false, Option, Some, None, IfSome, if◌then◌else◌}
 use Rattle.or_base.specs.declared.database.AdjDb.{AdjDb}
 use Rattle.ls_graph.specs.Arcs.{usable_arcs}
+use Rattle.std.specs.Str.{bytes_eq}
+use Rattle.ls_graph.specs.Changes.{AreChanges}
 use Rattle.ls_graph.specs.State.{KnownLinks, IsSettled}
+use Rattle.ls_graph.specs.declared.change.LinkChange.{LinkChange}
 use Rattle.ls_records.specs.Change.{is_overloaded}
 use Rattle.ls_records.specs.Step.{changed}
 
@@ -19,7 +22,12 @@ AreLinksOf me state = IfSome state (λ links. (links.me ≡ me) × IsSettled lin
 abbrev pub with_record : KnownLinks → List ℕ → Option AdjDb → KnownLinks
 with_record k node db = let databases = changed k.databases node db in record { me = k.me; databases = databases; in_force = usable_arcs k.me databases }
 
--- what differs between two states of the links, where it is said that something is as before it is
-pub record CoversLinks (before after : KnownLinks) (arcs_differ transit_differs : Bool) : Type 0 where
-  pub arcs : arcs_differ ≡ false → after.in_force ≡ before.in_force
-  pub overload : transit_differs ≡ false → (node : List ℕ) → is_overloaded after.databases node ≡ is_overloaded before.databases node
+-- what differs between two states of the links: the arcs, and at most whether this node takes transit traffic
+pub record CoversLinks (before after : KnownLinks) (changes : List LinkChange) (node : List ℕ) (transit_differs : Bool) : Type 0 where
+  pub links : AreChanges before.in_force after.in_force changes
+  pub others : (other : List ℕ) → bytes_eq node other ≡ false → is_overloaded after.databases other ≡ is_overloaded before.databases other
+  pub own : transit_differs ≡ false → is_overloaded after.databases node ≡ is_overloaded before.databases node
+
+-- the name, if it is to be told
+abbrev pub name_if : Bool → List ℕ → Option (List ℕ)
+name_if told name = if told then Some name else None

@@ -95,16 +95,19 @@ impl Advertised {
         Ok(list)
     }
 
-    /// No prefix record is left. Gives the prefixes that were advertised, in order. Where memory runs out nothing changes.
-    pub fn clear(&mut self) -> Result<Vec<Prefix>, NoMemory>
-        ensures ok { OnOk result (self.new ≡ []) }
-        ensures in_order { IfOk result (λ list. IsStrictlySortedBy prefix_cmp list.items) }
-        ensures others { IfOk result (λ list. KeepsAdvertisers self.old self.new list.items) }
+    /// No prefix record is left.
+    pub fn clear(&mut self)
+        ensures { self.new ≡ [] }
     {
-        let list = self.prefixes()?;
         self.records = BTreeMap::new(self.alloc);
         self.index = BTreeMap::new(self.alloc);
-        Ok(list)
+    }
+
+    /// The prefix records, by the names of their nodes.
+    pub fn records(&self) -> &BTreeMap<Name, PrefixDb>
+        ensures { result.now.entries ≡ self.now }
+    {
+        &self.records
     }
 
     /// The nodes that advertise exactly this prefix, in the order of their names, each with its entry. None where nobody does.

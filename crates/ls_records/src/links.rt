@@ -9,7 +9,7 @@ ghost use Rattle.ls_records.specs.Change.{is_overloaded};
 ghost use Rattle.ls_records.specs.Step.{changed};
 ghost use Rattle.ls_records.specs.Links.{known_links, with_record, CoversLinks};
 
-use ls_graph::{Arc, LinkChange, LinkState, no_change_is_none, usable_arcs_are_these};
+use ls_graph::{Arc, LinkChange, LinkState, usable_arcs_are_these};
 use or_base::{AdjDb, Name, NoMemory};
 use std::alloc::Global;
 use std::marker::Model;
@@ -84,20 +84,24 @@ impl Links {
         }
     }
 
-    /// The node has this link record, or none. Gives whether the arcs may be others, and whether the node takes transit traffic
-    /// now or no longer. Where memory runs out there may be no link records.
-    pub fn hold(&mut self, node: &Name, db: Option<AdjDb>) -> Result<(bool, bool), NoMemory>
+    /// The node has this link record, or none. Gives what changes of the arcs, and whether the node takes transit traffic now
+    /// and didn't, or no longer does. Where memory runs out there may be no link records.
+    pub fn hold(
+        &mut self,
+        node: &Name,
+        db: Option<AdjDb>,
+    ) -> Result<(Vec<LinkChange>, bool), NoMemory>
         requires { IfSome db (λ d. IsSoundDatabase d × (d.node ≡ node.now)) }
         ensures ok { OnOk result (self.new ≡ with_record self.old node.now db) }
         ensures me { self.new.me ≡ self.old.me }
-        ensures covers { IfOk result (λ differ. CoversLinks self.old self.new differ.0 differ.1) }
+        ensures covers { IfOk result (λ change. CoversLinks self.old self.new change.0.items node.now change.1) }
     {
         let was = self.is_overloaded(node);
         let state = state_or_new(self.alloc, &self.me, self.state.take())?;
-        let (state, arcs) = replaced(state, node, db)?;
+        let (state, changes) = replaced(state, node, db)?;
         self.state = Some(state);
         let is = self.is_overloaded(node);
-        Ok((arcs, was != is))
+        Ok((changes, was != is))
     }
 
     /// No link record is left.
@@ -120,23 +124,23 @@ fn state_or_new(alloc: Global, me: &Name, state: Option<LinkState>) -> Result<Li
     }
 }
 
-/// The node has this database, or none, and all changes are in force. Gives whether there are any.
-fn replaced(links: LinkState, node: &Name, db: Option<AdjDb>) -> Result<(LinkState, bool), NoMemory>
+/// The node has this database, or none, and all changes are in force. Gives them.
+fn replaced(
+    links: LinkState,
+    node: &Name,
+    db: Option<AdjDb>,
+) -> Result<(LinkState, Vec<LinkChange>), NoMemory>
     requires settled { IsSettled links }
     requires sound { IfSome db (λ d. IsSoundDatabase d × (d.node ≡ node.now)) }
     ensures after { IfOk result (λ p. p.0 ≡ with_record links node.now db) }
-    ensures same { IfOk result (λ p. p.1 ≡ false → p.0.in_force ≡ links.in_force) }
+    ensures changes { IfOk result (λ p. AreChanges links.in_force p.0.in_force p.1.items) }
     ensures by_name { IsStrictlySortedBy bytes_cmp (keys_of links.databases) }
 {
-    no_change_is_none();
     links.databases_are_sound();
-    let _before = links.arcs();
     let mut after = links;
     let changes = change(&mut after, node, db)?;
     after.settle(changes.as_slice())?;
-    let _arcs = after.arcs();
-    let differ = !changes.is_empty();
-    Ok((after, differ))
+    Ok((after, changes))
 }
 
 /// The node has this database, or none. Gives what changes of the arcs in force.

@@ -1,8 +1,9 @@
-ghost use Rattle.std.specs.Prelude.{◌≡◌, [], codes, Some, option_copied, IfOk, OnOk};
+ghost use Rattle.std.specs.Prelude.{◌≡◌, [], codes, true, false, Some, None, option_copied, IfOk, OnOk};
 ghost use Rattle.ls_graph.specs.Arcs.{usable_arcs};
 ghost use Rattle.ls_graph.specs.State.{AreUsable};
 ghost use Rattle.ls_records.specs.Records.{advertised_prefixes, advertisers};
 ghost use Rattle.ls_records.specs.Change.{known_after, is_overloaded, Covers};
+ghost use Rattle.ls_records.specs.Links.{name_if};
 ghost use Rattle.ls_records.specs.Step.{taken, with_held, rest_after};
 ghost use Rattle.ls_records.specs.Index.{advertisers_if_any};
 
@@ -10,11 +11,18 @@ use crate::advertised::Advertised;
 use crate::change::RecordChange;
 use crate::links::Links;
 use crate::reading::{link_record_under, name_of, prefix_record_under, rest_after};
-use ls_graph::Arc;
-use or_base::{JournalEntry, Key, KvValue, Name, NoMemory, Prefix, PrefixEntry};
+use ls_graph::{Arc, LinkChange};
+use or_base::{JournalEntry, Key, KvValue, Name, NoMemory, Prefix, PrefixDb, PrefixEntry};
 use std::alloc::Global;
 use std::collections::BTreeMap;
 use std::marker::Model;
+
+/// The name, if it is to be told.
+fn name_if(told: bool, name: Name) -> Option<Name>
+    ensures { result ≡ name_if told name }
+{
+    if told { Some(name) } else { None }
+}
 
 /// The records that a node knows.
 #[derive(Drop)]
@@ -54,7 +62,7 @@ impl Records {
         match entry {
             JournalEntry::Merged { pair, .. } => Ok(self.hold(&pair.key, Some(&pair.value))?),
             JournalEntry::Expired { key, .. } => Ok(self.hold(key, None)?),
-            JournalEntry::Cleared { .. } => Ok(self.clear()?),
+            JournalEntry::Cleared { .. } => Ok(self.clear()),
         }
     }
 
@@ -71,11 +79,7 @@ impl Records {
             return Ok(self.hold_prefix(key, node, value)?);
         }
         let _arcs = self.links.arcs();
-        Ok(RecordChange {
-            arcs: false,
-            overload: false,
-            prefixes: Vec::new(self.alloc),
-        })
+        Ok(self.change_of_prefixes(Vec::new(self.alloc)))
     }
 
     /// This is held under the key of a node's link record, or nothing.
@@ -92,12 +96,8 @@ impl Records {
     {
         let node = name_of(self.alloc, node)?;
         let db = link_record_under(self.alloc, key, &node, value)?;
-        let (arcs, overload) = self.links.hold(&node, db)?;
-        Ok(RecordChange {
-            arcs,
-            overload,
-            prefixes: Vec::new(self.alloc),
-        })
+        let (links, differs) = self.links.hold(&node, db)?;
+        Ok(self.change_of_links(links, name_if(differs, node)))
     }
 
     /// This is held under the key of a node's prefix record, or nothing.
@@ -116,26 +116,52 @@ impl Records {
         let node = name_of(self.alloc, node)?;
         let db = prefix_record_under(self.alloc, key, &node, value)?;
         let prefixes = self.prefixes.hold(node, db)?;
-        Ok(RecordChange {
-            arcs: false,
-            overload: false,
-            prefixes,
-        })
+        Ok(self.change_of_prefixes(prefixes))
     }
 
     /// Nothing is held.
-    fn clear(&mut self) -> Result<RecordChange, NoMemory>
-        ensures ok { OnOk result (self.new ≡ record { me = self.old.me; links = []; arcs = usable_arcs self.old.me []; prefixes = [] }) }
-        ensures me { self.new.me ≡ self.old.me }
-        ensures covers { IfOk result (λ change. Covers self.old self.new change) }
+    fn clear(&mut self) -> RecordChange
+        ensures now { self.new ≡ record { me = self.old.me; links = []; arcs = usable_arcs self.old.me []; prefixes = [] } }
+        ensures cleared { result.cleared ≡ true }
     {
-        let prefixes = self.prefixes.clear()?;
+        self.prefixes.clear();
         self.links.clear();
-        Ok(RecordChange {
-            arcs: true,
-            overload: true,
+        RecordChange {
+            cleared: true,
+            links: Vec::new(self.alloc),
+            transit: None,
+            prefixes: Vec::new(self.alloc),
+        }
+    }
+
+    /// A change of these arcs, and of whether this node takes transit traffic, if there is one.
+    fn change_of_links(&self, links: Vec<LinkChange>, transit: Option<Name>) -> RecordChange
+        ensures kept { result.cleared ≡ false }
+        ensures links { result.links.items ≡ links.items }
+        ensures transit { result.transit ≡ transit }
+        ensures prefixes { result.prefixes.items ≡ [] }
+    {
+        RecordChange {
+            cleared: false,
+            links,
+            transit,
+            prefixes: Vec::new(self.alloc),
+        }
+    }
+
+    /// A change of these prefixes, and of nothing else.
+    fn change_of_prefixes(&self, prefixes: Vec<Prefix>) -> RecordChange
+        ensures kept { result.cleared ≡ false }
+        ensures links { result.links.items ≡ [] }
+        ensures transit { result.transit ≡ None }
+        ensures prefixes { result.prefixes.items ≡ prefixes.items }
+    {
+        RecordChange {
+            cleared: false,
+            links: Vec::new(self.alloc),
+            transit: None,
             prefixes,
-        })
+        }
     }
 
     /// The node that knows the records.
@@ -165,6 +191,13 @@ impl Records {
         ensures { advertisers_if_any result ≡ advertisers self.now.prefixes prefix.now }
     {
         self.prefixes.advertisers(prefix)
+    }
+
+    /// The prefix records, by the names of their nodes.
+    pub fn prefix_records(&self) -> &BTreeMap<Name, PrefixDb>
+        ensures { result.now.entries ≡ self.now.prefixes }
+    {
+        self.prefixes.records()
     }
 
     /// The prefixes that somebody advertises, in order.

@@ -1,4 +1,4 @@
-use Rattle.std.proofs.Common.{◌≡◌, option_copied, false, None, rules, codes}
+use Rattle.std.proofs.Common.{◌≡◌, ◌∙◌, option_copied, None, rules, codes}
 use Rattle.ls_records.specs.Step.{rest_after}
 use Rattle.ls_records.proofs.Holding.{neither_held, covers_none}
 use Rattle.ls_records.proofs.records.Records.hold.Goals as goal
@@ -10,4 +10,4 @@ returns-clause-ok c =
     neither_held c.self.inside.links c.self.inside.prefixes c.args.self.now c.args.key.now (option_copied c.args.value) c.self.view_is c.arcs-arcs.ensures.settled no_link no_prefix
 
 pub returns-clause-covers : goal.returns-clause-covers
-returns-clause-covers c = covers_none c.args.self.now (record { arcs = false; overload = false; prefixes = c.new.result }) c.new.ensures.items
+returns-clause-covers c = covers_none c.args.self.now c.change_of_prefixes.result c.change_of_prefixes.ensures.links (c.change_of_prefixes.ensures.prefixes ∙ c.new.ensures.items)
