@@ -23,6 +23,7 @@ use Rattle.net_record.specs.declared.record.NodeMark.{NodeMark}
 use Rattle.net_record.specs.declared.record.Record.{Record}
 use Rattle.net_record.specs.declared.record.SettleDone.{SettleDone}
 use Rattle.net_report.specs.Report.{settle_line, store_line, hex_text, left_text, key_line, sync_line, store_text, route_line, routes_line, fib_line, node_routes_text, answer_line, shown_text, turn_line, settle_text, report, phase_text, value_text}
+use Rattle.net_report.specs.Summary.{declared_text, held_text, summary}
 
 -- no bytes
 pub hex_text-none : hex_text [] ≡ codes "-"
@@ -109,6 +110,11 @@ report-stores = refl
 pub report-routes : report done (laboratory kind.Full show.Routes) false ≡ answers ++ routes ++ codes "end\n"
 unfolding report phase_text settle_text settle_line routes_line route_line fib_line node_routes_text answer_line shown_text prefix_text v4_text encode_with digits value_text
 report-routes = refl
+
+-- a key and a route, of a laboratory that isn't a grid
+pub summary-one_node : summary done (laboratory kind.Full show.Nothing) 2 ≡ codes "grid 2 nodes 1 links 0 keys 1 routes 1\n"
+unfolding summary declared_text held_text digits
+summary-one_node = refl
 
 -- the agent lacks some of 12 routes
 pub fib_line-dirty : fib_line (record { entries = 0; stale = 0; syncs = []; routes = []; fib_dirty = true; fib_routes = 12 }) ≡ codes "fib dirty 12\n"
