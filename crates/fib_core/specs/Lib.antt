@@ -1,1 +1,3 @@
+pub mod Agent
 pub mod Fib
+pub mod Law
