@@ -1,5 +1,5 @@
 -- What an agent is asked to do, and what becomes of its table; an agent in memory, some of whose calls are refused.
-use Rattle.std.specs.Prelude.{ℕ, ◌+◌, ◌-◌, ◌^◌, List, [], ◌∷◌, ◌++◌, fold, map, Bool, false, ◌&&◌, nat_lt, if◌then◌else◌, ⊤}
+use Rattle.std.specs.Prelude.{ℕ, ◌+◌, ◌-◌, ◌^◌, List, [], ◌∷◌, ◌++◌, fold, map, Bool, ◌&&◌, nat_lt, if◌then◌else◌, ⊤}
 use Rattle.or_base.specs.Counting.{saturate}
 use Rattle.or_base.specs.Memory.{is_listed}
 use Rattle.or_base.specs.declared.prefix.Prefix.{Prefix}

@@ -1,16 +1,14 @@
 -- Laws of Fib, over all items and all lists of calls that its agent refuses.
-use Rattle.std.specs.Prelude.{◌≡◌, ℕ, ◌<◌, ◌^◌, List, [], ◌∷◌, ◌++◌, length, fold, map, Option, Some, None, Bool, true, false, if◌then◌else◌}
+use Rattle.std.specs.Prelude.{◌≡◌, ℕ, ◌<◌, ◌^◌, List, [], ◌∷◌, ◌++◌, length, fold, map, Option, Some, None, false, if◌then◌else◌}
 use Rattle.std.specs.List.{AllByRecursion, enumerate_from, filter_map}
 use Rattle.or_base.specs.Memory.{is_listed}
 use Rattle.or_base.specs.declared.item.Item.{Item}
 use Rattle.or_base.specs.declared.item.Item.TheVariants.{Tick, Routes}
-use Rattle.or_base.specs.declared.prefix.Prefix.{Prefix}
 use Rattle.or_base.specs.declared.route.Delta.{Delta}
-use Rattle.or_base.specs.declared.route.Route.{Route}
 use Rattle.ls_routes.specs.Routes.{IsTable, applied}
 use Rattle.fib_core.specs.declared.op.FibOp.{FibOp}
 use Rattle.fib_core.specs.declared.op.FibOp.TheVariants.{Whole}
-use Rattle.fib_core.specs.Agent.{AgentState, new_agent, is_refused, agent_after, answers, ops_of, until_refused}
+use Rattle.fib_core.specs.Agent.{new_agent, is_refused, agent_after, answers, ops_of, until_refused}
 use Rattle.fib_core.specs.Fib.{FibState, new_fib, last_answer, fib_after}
 
 -- Fib over an agent that refuses these calls, after these items
