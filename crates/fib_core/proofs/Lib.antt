@@ -2,3 +2,4 @@ pub mod Asking
 pub mod Calls
 pub mod Programmed
 pub mod Recovery
+pub mod Named

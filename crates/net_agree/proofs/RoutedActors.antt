@@ -16,6 +16,8 @@ use Rattle.spark_node.specs.Spark.{SparkState, new_spark, down_link, spark_step}
 use Rattle.link_monitor.specs.LinkMonitor.{link_monitor_step}
 use Rattle.prefix_manager.specs.PrefixManager.{prefix_manager_step}
 use Rattle.decision_core.specs.Decision.{DecisionState, decision_step}
+use Rattle.fib_core.specs.Fib.{fib_step}
+use Rattle.fib_core.proofs.Named.{fib_me}
 use Rattle.net_link.specs.Link.{link_step}
 use Rattle.net_link.proofs.Flow.{links_make_nothing_up}
 use Rattle.net_record.specs.declared.role.NodeModule.TheVariants.{Spark as SparkRole, LinkMonitor as LinkMonitorRole, PrefixManager as PrefixManagerRole, Store as StoreRole, Decision as DecisionRole, Fib as FibRole, Desk as DeskRole}
@@ -101,7 +103,9 @@ turn_fit all (Module (PrefixManager s)) role lane item at f may = fit_other all 
 turn_fit all (Module (Decision s)) role lane item at f may =
     let named = f.is.1 ∙ ap (λ name. Node DecisionRole name f.is.0) (sym (decision_me s item)) in
     fit_other all (Module (Decision (decision_step s item).0)) role (f.is.0, named) refl (λ t wrong. cc)
-turn_fit all (Module (Fib s)) role lane item at f may = f
+turn_fit all (Module (Fib s)) role lane item at f may =
+    let named = f.is.1 ∙ ap (λ name. Node FibRole name f.is.0) (sym (fib_me s item)) in
+    fit_other all (Module (Fib (fib_step s item).0)) role (f.is.0, named) refl (λ t wrong. cc)
 turn_fit all (Module (Store s)) role lane item at f may =
     let after = (store_step s item).0 in
     let own : Knows (λ link peer. AreEnds all link peer s.me) after =

@@ -181,7 +181,7 @@ node_stores (m ∷ modules) node setup =
 
 -- what the modules of a node in this place are set up with
 abbrev pub setup_at : List NodeModule → List LinkDecl → Option ℕ → ℕ → NodeDecl → NodeSetup
-setup_at modules links ttl place node = record { store = store_number modules place; decision = decision_number modules place; ends = ends_at links node.name; ttl = ttl }
+setup_at modules links ttl place node = record { store = store_number modules place; decision = decision_number modules place; ends = ends_at links node.name; ttl = ttl; faults = node.faults }
 
 -- the roles of nodes, the first of which has this place, and then these
 abbrev nodes_then : List NodeModule → List LinkDecl → Option ℕ → ℕ → List NodeDecl → List Role → List Role

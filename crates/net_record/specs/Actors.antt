@@ -44,7 +44,7 @@ node_part kind LinkMonitorRole node setup = Module (LinkMonitor (new_link_monito
 node_part kind PrefixManagerRole node setup = Module (PrefixManager (new_prefix_manager node setup.ttl))
 node_part kind StoreRole node setup = Module (Store (new_store kind node))
 node_part kind DecisionRole node setup = Module (Decision (new_decision node))
-node_part kind FibRole node setup = Module (Fib (new_fib node))
+node_part kind FibRole node setup = Module (Fib (new_fib node setup.faults))
 node_part kind DeskRole node setup = Desk (new_desk node setup.store setup.decision)
 
 -- what an actor is as it starts

@@ -61,7 +61,7 @@ abbrev pub node_roles : List NodeModule → List LinkDecl → Option ℕ → ℕ
 node_roles modules links ttl node =
     map
     (λ m. Node m node.1.name
-    (record { store = store_number modules node.0; decision = decision_number modules node.0; ends = ends_at links node.1.name; ttl = ttl }))
+    (record { store = store_number modules node.0; decision = decision_number modules node.0; ends = ends_at links node.1.name; ttl = ttl; faults = node.1.faults }))
     modules
 
 -- a link, which is given with its number

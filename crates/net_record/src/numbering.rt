@@ -146,6 +146,17 @@ fn ends_at(alloc: Global, links: &[LinkDecl], name: &Name) -> Result<Vec<LinkEnd
     Ok(ends)
 }
 
+/// Copies numbers.
+pub(crate) fn copied_numbers(alloc: Global, numbers: &[u64]) -> Result<Vec<u64>, NoMemory>
+    ensures { IfOk result (λ copies. copies.items ≡ numbers.now) }
+{
+    let mut copies = Vec::new(alloc);
+    for number in numbers {
+        copies.push(*number)?;
+    }
+    Ok(copies)
+}
+
 /// Adds the modules of a node, which is given with its place among the nodes.
 fn add_node(
     alloc: Global,
@@ -170,6 +181,7 @@ fn add_node(
             decision: decision_number(modules, place),
             ends: Seq::from_vec(ends),
             ttl,
+            faults: Seq::from_vec(copied_numbers(alloc, node.faults.as_slice())?),
         };
         all.push(Role::Node {
             module: *module_,

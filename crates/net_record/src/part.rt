@@ -3,11 +3,13 @@ ghost use Rattle.or_actor.specs.Fits.{link_number_end};
 ghost use Rattle.spark_node.specs.Spark.{new_spark};
 ghost use Rattle.link_monitor.specs.LinkMonitor.{new_link_monitor};
 ghost use Rattle.prefix_manager.specs.PrefixManager.{new_prefix_manager};
-ghost use Rattle.net_record.specs.declared.kinds.AnyModule.TheVariants.{Spark, LinkMonitor, PrefixManager};
+ghost use Rattle.fib_core.specs.Fib.{new_fib};
+ghost use Rattle.net_record.specs.declared.kinds.AnyModule.TheVariants.{Spark, LinkMonitor, PrefixManager, Fib};
 ghost use Rattle.net_record.specs.Actors.{node_part};
 
 use crate::desk::Desk;
 use crate::kinds::AnyModule;
+use crate::numbering::copied_numbers;
 use crate::role::{NodeModule, NodeSetup, Role};
 use decision_core::DecisionModule;
 use fib_core::FibModule;
@@ -68,6 +70,14 @@ fn new_prefix_manager(alloc: Global, node: Name, setup: &NodeSetup) -> Result<An
     Ok(AnyModule::PrefixManager(manager))
 }
 
+/// The Fib of a node as it starts.
+fn new_fib(alloc: Global, node: Name, setup: &NodeSetup) -> Result<AnyModule, NoMemory>
+    ensures { IfOk result (λ m. m ≡ Fib (new_fib node setup.now.faults)) }
+{
+    let failing = copied_numbers(alloc, setup.faults.as_slice())?;
+    Ok(AnyModule::Fib(FibModule::new(node, failing)))
+}
+
 /// A module of a node as it starts, in a laboratory of this kind.
 fn node_part(
     alloc: Global,
@@ -87,7 +97,7 @@ fn node_part(
         NodeModule::Decision => {
             Part::Module(AnyModule::Decision(DecisionModule::new(alloc, node)?))
         }
-        NodeModule::Fib => Part::Module(AnyModule::Fib(FibModule::new(node))),
+        NodeModule::Fib => Part::Module(new_fib(alloc, node, setup)?),
         NodeModule::Desk => Part::Desk(Desk::new(alloc, node, setup.store, setup.decision)),
     };
     Ok(part)

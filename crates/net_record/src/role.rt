@@ -31,6 +31,8 @@ pub struct NodeSetup {
     pub ends: Seq<LinkEnd>,
     /// The lifetime of the records that the node publishes, in milliseconds.
     pub ttl: Option<u64>,
+    /// The numbers, from 1, of the calls that the agent of the node's Fib refuses.
+    pub faults: Seq<u64>,
 }
 
 /// What an actor is. Actors are numbered from 0: the driver, then the modules of the nodes in order, then the links.
