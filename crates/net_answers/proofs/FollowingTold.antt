@@ -12,10 +12,11 @@ use Rattle.net_laboratory.specs.declared.declared.NodeDecl.{NodeDecl}
 use Rattle.net_laboratory.specs.Scenario.{Laboratory}
 use Rattle.net_record.specs.declared.actor.ActorState.{ActorState}
 use Rattle.net_record.specs.declared.record.NodeMark.{NodeMark}
+use Rattle.net_record.specs.declared.stores.FibMark.{FibMark}
 use Rattle.net_record.specs.Actors.{store_of}
 use Rattle.net_record.specs.Marks.{no_mark}
 use Rattle.net_record.specs.Roles.{node_names}
-use Rattle.net_record.specs.World.{is_empty, mark_of_store, marks_of, all_routes, with_routes, nodes_told}
+use Rattle.net_record.specs.World.{is_empty, mark_of_store, marks_of, all_routes, with_routes, all_fibs, with_fibs, nodes_told}
 
 -- the routes in a place
 abbrev pub routes_at : List NodeMark → ℕ → List Route
@@ -44,6 +45,15 @@ marks_without [] zero = refl
 marks_without [] (suc place) = refl
 marks_without (actor ∷ actors) place = no_route_head actor.told (store_of actor.part) (marks_of actors) (marks_without actors) place
 
+-- where Fibs stand leaves the routes
+routes_fibs : (marks : List NodeMark) (fibs : List FibMark) (place : ℕ) → routes_at (with_fibs marks fibs) place ≡ routes_at marks place
+routes_fibs [] fibs zero = refl
+routes_fibs [] fibs (suc place) = refl
+routes_fibs (mark ∷ marks) [] zero = refl
+routes_fibs (mark ∷ marks) [] (suc place) = routes_fibs marks [] place
+routes_fibs (mark ∷ marks) (fib ∷ fibs) zero = refl
+routes_fibs (mark ∷ marks) (fib ∷ fibs) (suc place) = routes_fibs marks fibs place
+
 -- ---- what a settle tells
 
 pub told_unshown : (actors : List ActorState) (place : ℕ) → routes_at (nodes_told actors false) place ≡ []
@@ -53,12 +63,14 @@ told_unshown actors place = marks_without actors place
 pub told_nowhere : (actors : List ActorState) (place : ℕ) → all_routes actors ≡ [] → routes_at (nodes_told actors true) place ≡ []
 unfolding nodes_told
 told_nowhere actors place none =
-    ap (λ rs. routes_at (with_routes (marks_of actors) rs) place) none ∙ ap (λ ms. routes_at ms place) (no_routes_with (marks_of actors)) ∙ marks_without actors place
+    routes_fibs (with_routes (marks_of actors) (all_routes actors)) (all_fibs actors) place
+    ∙ ap (λ rs. routes_at (with_routes (marks_of actors) rs) place) none ∙ ap (λ ms. routes_at ms place) (no_routes_with (marks_of actors)) ∙ marks_without actors place
 
 pub told_shown : (actors : List ActorState) (place : ℕ) → place < length (marks_of actors) → place < length (all_routes actors)
     → routes_at (nodes_told actors true) place ≡ get_or (all_routes actors) place []
 unfolding nodes_told
-told_shown actors place marked routed = routes_in (marks_of actors) (all_routes actors) place marked routed
+told_shown actors place marked routed =
+    routes_fibs (with_routes (marks_of actors) (all_routes actors)) (all_fibs actors) place ∙ routes_in (marks_of actors) (all_routes actors) place marked routed
 
 -- ---- where no item waits
 

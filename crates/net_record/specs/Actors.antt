@@ -19,7 +19,7 @@ use Rattle.spark_node.specs.Spark.{new_spark}
 use Rattle.link_monitor.specs.LinkMonitor.{new_link_monitor}
 use Rattle.prefix_manager.specs.PrefixManager.{new_prefix_manager}
 use Rattle.decision_core.specs.Decision.{DecisionState, new_decision, route_at, route_told}
-use Rattle.fib_core.specs.Fib.{new_fib}
+use Rattle.fib_core.specs.Fib.{FibState, new_fib}
 use Rattle.net_record.specs.declared.role.NodeModule.{NodeModule}
 use Rattle.net_record.specs.declared.role.NodeModule.TheVariants.{Spark as SparkRole, LinkMonitor as LinkMonitorRole, PrefixManager as PrefixManagerRole, Store as StoreRole, Decision as DecisionRole, Fib as FibRole, Desk as DeskRole}
 use Rattle.net_record.specs.declared.role.NodeSetup.{NodeSetup}
@@ -32,7 +32,7 @@ use Rattle.net_record.specs.declared.actor.ActorState.{ActorState}
 use Rattle.net_record.specs.declared.record.AnswerDone.{AnswerDone}
 use Rattle.net_record.specs.declared.desk.Question.{Question}
 use Rattle.net_record.specs.declared.desk.View.{View}
-use Rattle.net_record.specs.Kinds.{module_step, module_may_find, store_in, decision_in, entries_in}
+use Rattle.net_record.specs.Kinds.{module_step, module_may_find, store_in, decision_in, fib_in, entries_in}
 use Rattle.net_record.specs.Desk.{DeskState, new_desk, asked_in, view_for, desk_after, desk_may_find, desk_shown, desk_finds, without_question, desk_after_settle}
 
 -- ---- what an actor is
@@ -77,6 +77,10 @@ store_of _ = None
 abbrev pub decision_of : Part → Option DecisionState
 decision_of (Module m) = decision_in m
 decision_of _ = None
+
+abbrev pub fib_of : Part → Option FibState
+fib_of (Module m) = fib_in m
+fib_of _ = None
 
 -- the entries of a store's journal, or those that a Decision took; whatever is neither has none
 abbrev pub entries_of : Part → List JournalEntry

@@ -11,7 +11,7 @@ use Rattle.spark_node.specs.Spark.{spark_step}
 use Rattle.link_monitor.specs.LinkMonitor.{link_monitor_step}
 use Rattle.prefix_manager.specs.PrefixManager.{prefix_manager_step}
 use Rattle.decision_core.specs.Decision.{DecisionState, decision_step}
-use Rattle.fib_core.specs.Fib.{fib_step}
+use Rattle.fib_core.specs.Fib.{FibState, fib_step}
 use Rattle.net_record.specs.declared.kinds.AnyModule.{AnyModule}
 use Rattle.net_record.specs.declared.kinds.AnyModule.TheVariants.{Spark, LinkMonitor, PrefixManager, Store, Decision, Fib, Link}
 
@@ -40,6 +40,11 @@ store_in _ = None
 abbrev pub decision_in : AnyModule → Option DecisionState
 decision_in (Decision s) = Some s
 decision_in _ = None
+
+-- the Fib that it is, if it is one
+abbrev pub fib_in : AnyModule → Option FibState
+fib_in (Fib s) = Some s
+fib_in _ = None
 
 -- the entries that it has: the journal of a store, and of a Decision what it took of one
 abbrev pub entries_in : AnyModule → List JournalEntry

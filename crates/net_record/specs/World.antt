@@ -11,16 +11,18 @@ use Rattle.or_actor.specs.declared.output.Output.TheVariants.{To}
 use Rattle.or_actor.specs.Steps.{TurnMade, turn_done}
 use Rattle.kv_store.specs.Store.{StoreState}
 use Rattle.decision_core.specs.Decision.{routes_of}
+use Rattle.fib_core.specs.Fib.{FibState}
 use Rattle.net_laboratory.specs.Scenario.{Laboratory}
 use Rattle.net_record.specs.declared.role.Role.{Role}
 use Rattle.net_record.specs.declared.wire.Wire.{Wire}
 use Rattle.net_record.specs.declared.actor.ActorState.{ActorState}
 use Rattle.net_record.specs.declared.record.AnswerDone.{AnswerDone}
 use Rattle.net_record.specs.declared.record.NodeMark.{NodeMark}
+use Rattle.net_record.specs.declared.stores.FibMark.{FibMark}
 use Rattle.net_record.specs.declared.record.SettleDone.{SettleDone}
 use Rattle.net_record.specs.Roles.{roles}
 use Rattle.net_record.specs.Wires.{wires, lane_of}
-use Rattle.net_record.specs.Actors.{new_actor, store_of, decision_of, Range, no_range, range_for, made_by, actor_after, outputs_of, actors_after_settle}
+use Rattle.net_record.specs.Actors.{new_actor, store_of, decision_of, fib_of, Range, no_range, range_for, made_by, actor_after, outputs_of, actors_after_settle}
 use Rattle.net_record.specs.Answers.{giving_of}
 
 -- The lanes and, for each, the items that wait on it, the oldest first; the actors; the turns and the settles done.
@@ -123,7 +125,7 @@ greatest_clock [] = 0
 greatest_clock (actor ∷ actors) = max actor.clock (greatest_clock actors)
 
 -- What a settle tells of a store that told of so many finished full syncs before: the length of its journal, its count of stale
--- messages, and the full syncs that it started and that were finished since then. Routes are told besides, and Fib programs none yet.
+-- messages, and the full syncs that it started and that were finished since then. Routes are told besides, and where Fib stands.
 abbrev pub mark_of_store : ℕ → StoreState → List NodeMark
 mark_of_store told s =
     record { entries = length s.journal; stale = s.stale; syncs = drop told s.done; routes = []; fib_dirty = false; fib_routes = 0 } ∷ []
@@ -149,9 +151,27 @@ with_routes [] routes = []
 with_routes (mark ∷ marks) [] = mark ∷ with_routes marks []
 with_routes (mark ∷ marks) (routes ∷ others) = record mark { routes = routes } ∷ with_routes marks others
 
--- what a settle tells of the nodes; their routes too, where it shows routes
+-- what is told of a Fib: whether it is dirty, and how many routes its agent has
+abbrev pub fib_mark : FibState → FibMark
+fib_mark fib = record { dirty = fib.dirty; routes = length fib.agent.table }
+
+-- where an actor that is a Fib stands
+abbrev pub fibs_told : ActorState → List FibMark
+fibs_told actor = option_to_list (option_map fib_mark (fib_of actor.part))
+
+-- where the Fib of each node stands that has one
+abbrev pub all_fibs : List ActorState → List FibMark
+all_fibs actors = flat_map fibs_told actors
+
+-- the marks of nodes with where the Fib of each stands; a node without one is as it was
+abbrev pub with_fibs : List NodeMark → List FibMark → List NodeMark
+with_fibs [] fibs = []
+with_fibs (mark ∷ marks) [] = mark ∷ with_fibs marks []
+with_fibs (mark ∷ marks) (fib ∷ others) = record mark { fib_dirty = fib.dirty; fib_routes = fib.routes } ∷ with_fibs marks others
+
+-- what a settle tells of the nodes; their routes and where Fib stands too, where it shows routes
 unfoldable pub nodes_told : List ActorState → Bool → List NodeMark
-nodes_told actors shows = if shows then with_routes (marks_of actors) (all_routes actors) else marks_of actors
+nodes_told actors shows = if shows then with_fibs (with_routes (marks_of actors) (all_routes actors)) (all_fibs actors) else marks_of actors
 
 -- what a settle at a moment tells of actors after so many turns, with these answers
 abbrev pub settle_done : ℕ → ℕ → List ActorState → Bool → List AnswerDone → SettleDone

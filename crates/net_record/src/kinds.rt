@@ -1,7 +1,7 @@
 //! The one room for the kinds of modules.
 
 ghost use Rattle.std.specs.Prelude.{◌≡◌, ◌<◌, ◌^◌, length, option_map};
-ghost use Rattle.net_record.specs.Kinds.{store_in, decision_in, entries_in};
+ghost use Rattle.net_record.specs.Kinds.{store_in, decision_in, fib_in, entries_in};
 
 use decision_core::DecisionModule;
 use fib_core::FibModule;
@@ -49,6 +49,16 @@ impl AnyModule {
     {
         match self {
             AnyModule::Decision(decision) => Some(decision),
+            _other => None,
+        }
+    }
+
+    /// The Fib that it is, if it is one. It takes no memory.
+    pub fn fib(&self) -> Option<&FibModule>
+        ensures { option_map (λ s. s.now) result ≡ fib_in self.now }
+    {
+        match self {
+            AnyModule::Fib(fib) => Some(fib),
             _other => None,
         }
     }

@@ -105,7 +105,7 @@ fn node_part(
 
 impl Part {
     ghost use Rattle.std.specs.Option.{option_map_or};
-    ghost use Rattle.net_record.specs.Actors.{new_part, store_of, decision_of, desk_of, entries_of, finished_by, part_step, part_shown, part_after_settle, part_without_question};
+    ghost use Rattle.net_record.specs.Actors.{new_part, store_of, decision_of, fib_of, desk_of, entries_of, finished_by, part_step, part_shown, part_after_settle, part_without_question};
     ghost use Rattle.or_actor.specs.Fits.{has_small_link, have_small_links};
     ghost use Rattle.net_record.specs.Small.{HasSmallNumber};
 
@@ -144,6 +144,16 @@ impl Part {
     {
         match self {
             Part::Module(module_) => module_.decision(),
+            _other => None,
+        }
+    }
+
+    /// The Fib that it is, if it is one. It takes no memory.
+    pub fn fib(&self) -> Option<&FibModule>
+        ensures { option_map (λ s. s.now) result ≡ fib_of self.now }
+    {
+        match self {
+            Part::Module(module_) => module_.fib(),
             _other => None,
         }
     }

@@ -1,6 +1,6 @@
 ghost use Rattle.std.specs.Prelude.{◌≡◌, ◌<◌, ◌++◌, drop, length, map, IfOk, OnOk};
 ghost use Rattle.decision_core.specs.Decision.{routes_of};
-ghost use Rattle.net_record.specs.World.{marks_of, all_routes, with_routes, nodes_told};
+ghost use Rattle.net_record.specs.World.{marks_of, all_routes, with_routes, all_fibs, with_fibs, nodes_told};
 ghost use Rattle.net_record.specs.Records.{journals_of};
 
 use crate::actor::ActorState;
@@ -72,7 +72,55 @@ fn with_routes(
     Ok(told)
 }
 
-/// What a settle tells of the nodes among the actors, in order; their routes too, where it shows routes.
+/// Where a Fib stands.
+#[derive(Drop)]
+pub struct FibMark {
+    /// Its agent refused its last call, and may lack some of its routes.
+    pub dirty: bool,
+    /// How many routes the agent has.
+    pub routes: u64,
+}
+
+/// Where each Fib among the actors stands, in order.
+fn all_fibs(alloc: Global, actors: &[ActorState]) -> Result<Vec<FibMark>, NoMemory>
+    ensures { IfOk result (λ all. all.items ≡ all_fibs actors.now) }
+{
+    let mut all = Vec::new(alloc);
+    for actor in actors {
+        if let Some(fib) = actor.part.fib() {
+            all.push(FibMark {
+                dirty: fib.dirty(),
+                routes: fib.programmed() as u64,
+            })?;
+        }
+    }
+    Ok(all)
+}
+
+/// The marks of nodes with where the Fib of each stands.
+fn with_fibs(
+    alloc: Global,
+    marks: Vec<NodeMark>,
+    all: Vec<FibMark>,
+) -> Result<Vec<NodeMark>, NoMemory>
+    ensures { IfOk result (λ told. told.items ≡ with_fibs marks.items all.items) }
+{
+    let mut told = Vec::new(alloc);
+    let mut fibs = all.into_iter();
+    for mark in marks {
+        match fibs.next() {
+            Some(fib) => told.push(NodeMark {
+                fib_dirty: fib.dirty,
+                fib_routes: fib.routes,
+                ..mark
+            })?,
+            None => told.push(mark)?,
+        }
+    }
+    Ok(told)
+}
+
+/// What a settle tells of the nodes among the actors, in order; their routes and where Fib stands too, where it shows routes.
 #[tactic(auto, unfolding(crate::specs::World::nodes_told))]
 pub fn nodes_told(
     alloc: Global,
@@ -85,8 +133,8 @@ pub fn nodes_told(
     if !shows {
         return Ok(marks);
     }
-    let all = all_routes(alloc, actors)?;
-    with_routes(alloc, marks, all)
+    let routed = with_routes(alloc, marks, all_routes(alloc, actors)?)?;
+    with_fibs(alloc, routed, all_fibs(alloc, actors)?)
 }
 
 /// The journals of the stores among the actors, in order. They are moved.
