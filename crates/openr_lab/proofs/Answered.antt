@@ -1,9 +1,9 @@
 -- An answer that was written whole, from how its bytes were read.
 use Rattle.std.proofs.Common.{◌≡◌, inl, inr, ◌⊎◌, ℕ, ◌≤◌, List, [], ◌++◌, length, Option, Some, None, true, sym, ap, ◌∙◌, subst, arith}
 use Rattle.std.proofs.lemmas.List.{append-nil}
+use Rattle.lab_words.specs.declared.words.Mode.TheVariants.{Replay}
 use Rattle.lab_words.specs.declared.words.Words.{Words}
 use Rattle.openr_lab.specs.declared.answer.Answer.{Answer}
-use Rattle.openr_lab.specs.Built.{is_mode_built}
 use Rattle.openr_lab.specs.Streams.{read_limit, ReadWhole, WroteWhole}
 use Rattle.openr_lab.specs.Answer.{answer_to}
 use Rattle.openr_lab.specs.Ends.{ReadToEnd, Answered}
@@ -23,10 +23,10 @@ all_read_or_refused left left' bytes status read (inl refused) = inl refused
 all_read_or_refused left left' bytes status read (inr small) = inr (all_read left left' bytes read small)
 
 pub answered_read : (words : Words) (left left' taken taken' : Option (List ℕ)) (bytes : List ℕ) (answer : Answer)
-    → is_mode_built words.mode ≡ true → ReadWhole read_limit left left' bytes → (answer.status ≡ 3) ⊎ (length bytes ≤ 33554432)
+    → words.mode ≡ Replay → ReadWhole read_limit left left' bytes → (answer.status ≡ 3) ⊎ (length bytes ≤ 33554432)
     → answer ≡ answer_to words bytes → WroteWhole taken taken' answer.text → Answered words left left' taken taken' answer.status answer.run
-answered_read words left left' taken taken' bytes answer built read small is written = inl (record {
-  built = built;
+answered_read words left left' taken taken' bytes answer replays read small is written = inl (record {
+  replays = replays;
   bytes = bytes;
   read = read;
   to_end = all_read_or_refused left left' bytes answer.status read small;

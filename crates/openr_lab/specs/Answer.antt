@@ -6,6 +6,8 @@ use Rattle.net_scenario.specs.declared.fault.ScenarioFault.{ScenarioFault}
 use Rattle.net_laboratory.specs.Scenario.{Laboratory}
 use Rattle.net_laboratory.specs.declared.schedule.Schedule.{Schedule}
 use Rattle.net_laboratory.specs.declared.schedule.Turn.{Turn}
+use Rattle.net_laboratory.specs.declared.show.Show.TheVariants.{Routes}
+use Rattle.net_grid.specs.Grid.{grid_scenario}
 use Rattle.net_scenario.specs.FaultKinds.{fault_number, fault_name}
 use Rattle.net_scenario.specs.Language.{scenario_of}
 use Rattle.net_record.specs.declared.record.Record.{Record}
@@ -15,6 +17,7 @@ use Rattle.net_record.specs.Run.{schedule_of}
 use Rattle.net_record.specs.Given.{GivenFault, run_given}
 use Rattle.net_record.specs.Given.GivenFault.{BadTurn, OverBudget}
 use Rattle.net_report.specs.Report.{line, report}
+use Rattle.net_report.specs.Summary.{summary}
 use Rattle.openr_lab.specs.declared.answer.Answer.{Answer}
 use Rattle.openr_lab.specs.Built.{is_built}
 
@@ -60,6 +63,21 @@ unfoldable pub answer_given : Bool → Laboratory → List Turn → Answer
 answer_given trace lab turns =
     let ended = run_given lab turns in
     answer_after_given ended.fault (record_of ended.last []) lab trace
+
+-- the laboratory that mode gen runs: a grid of this size, whose settle shows routes
+abbrev pub grid_of : ℕ → Laboratory
+grid_of size = grid_scenario size Routes
+
+-- the answer to a grid whose run ended so, with this record: its summary, or which settle failed
+abbrev pub answer_summed : Option ℕ → Record → ℕ → Answer
+answer_summed None done size = record { status = 0; text = summary done (grid_of size) size; run = Some done }
+answer_summed (Some settle) done size = record { status = 4; text = unsettled_line settle; run = Some done }
+
+-- the answer of mode gen: a grid of this size is run by round robin
+unfoldable pub answer_grid : ℕ → Answer
+answer_grid size =
+    let ended = round_robin (grid_of size) in
+    answer_summed ended.unsettled (record_of ended.last.world ended.last.marks) size
 
 -- by round robin, unless turns are given
 abbrev pub answer_under : Option Schedule → Bool → Laboratory → Answer

@@ -5,11 +5,11 @@ use Rattle.lab_words.specs.declared.words.Mode.TheVariants.{Replay, Live, Gen, C
 use Rattle.lab_words.specs.declared.words.Words.{Words}
 use Rattle.net_laboratory.specs.Scenario.{Laboratory}
 
--- the program has the mode: it replays, and does nothing else
+-- the program has the mode: it replays, and runs grids
 abbrev pub is_mode_built : Mode → Bool
 is_mode_built Replay = true
 is_mode_built Live = false
-is_mode_built Gen = false
+is_mode_built Gen = true
 is_mode_built Check = false
 
 -- the program runs the scenario in the mode that was asked for: every scenario, if it has the mode

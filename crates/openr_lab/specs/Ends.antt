@@ -1,6 +1,7 @@
 -- What each end of the program says of the words, the bytes read, the bytes written and the record.
 use Rattle.std.specs.Prelude.{◌≡◌, ◌⊎◌, ℕ, List, [], Bool, true, false, ◌||◌, ◌==◌, if◌then◌else◌, Option, Some, None, Ok, Err, codes, String, string_bytes, map}
 use Rattle.std.specs.declared.alloc.Global.{Global}
+use Rattle.lab_words.specs.declared.words.Mode.TheVariants.{Replay, Gen}
 use Rattle.lab_words.specs.declared.words.Words.{Words}
 use Rattle.lab_words.specs.Words.{words_of}
 use Rattle.net_laboratory.specs.Scenario.{Laboratory}
@@ -20,10 +21,11 @@ use Rattle.net_answers.specs.Recorded.{RecordAnswers}
 use Rattle.net_agree.specs.Recorded.{RecordAgrees}
 use Rattle.net_world.specs.Given.{IsGivenRecord}
 use Rattle.net_report.specs.Report.{line, report as report_of}
+use Rattle.net_report.specs.Summary.{summary}
 use Rattle.openr_lab.specs.declared.answer.Answer.{Answer}
 use Rattle.openr_lab.specs.Streams.{read_limit, ReadWhole, WroteWhole, WroteFront}
 use Rattle.openr_lab.specs.Built.{is_mode_built, is_built}
-use Rattle.openr_lab.specs.Answer.{answer_to, not_built_line, unsettled_line, bad_turn_line}
+use Rattle.openr_lab.specs.Answer.{answer_to, answer_grid, grid_of, not_built_line, unsettled_line, bad_turn_line}
 
 -- the statuses: done, wrong words, no scenario, unsettled, out of memory, a read that failed, a write that failed, a bad turn
 abbrev pub is_status : ℕ → Bool
@@ -62,7 +64,7 @@ pub record RefusalFailed (text : List ℕ) (left left' taken taken' : Option (Li
 -- The source was read to its end, or to the limit where the bytes are no scenario, and the answer to them was written
 -- whole.
 pub record Read (words : Words) (left left' taken taken' : Option (List ℕ)) (status : ℕ) (run : Option Record) : Type 0 where
-  pub built : is_mode_built words.mode ≡ true
+  pub replays : words.mode ≡ Replay
   pub bytes : List ℕ
   pub read : ReadWhole read_limit left left' bytes
   pub to_end : (status ≡ 3) ⊎ ReadToEnd left left' bytes
@@ -76,9 +78,18 @@ pub record NotBuilt (words : Words) (left left' taken taken' : Option (List ℕ)
   pub status_is : status ≡ 3
   pub refused : Refused not_built_line left left' taken taken' run
 
+-- A grid was run, and the answer was written whole.
+pub record GridAnswered (words : Words) (taken taken' : Option (List ℕ)) (status : ℕ) (run : Option Record) : Type 0 where
+  pub gen : words.mode ≡ Gen
+  pub answer : status ≡ (answer_grid words.size).status
+  pub written : WroteWhole taken taken' (answer_grid words.size).text
+  pub recorded : run ≡ (answer_grid words.size).run
+
+-- In mode gen nothing is read.
 abbrev pub Answered : Words → Option (List ℕ) → Option (List ℕ) → Option (List ℕ) → Option (List ℕ) → ℕ → Option Record → Type 0
 Answered words left left' taken taken' status run =
-    Read words left left' taken taken' status run ⊎ NotBuilt words left left' taken taken' status run
+    Read words left left' taken taken' status run
+    ⊎ (NotBuilt words left left' taken taken' status run ⊎ ((left' ≡ left) × GridAnswered words taken taken' status run))
 
 -- the record that is there where the writing of an answer failed: that of a finished run
 abbrev pub finished_run : Answer → Option Record
@@ -86,7 +97,7 @@ finished_run answer = if answer.status == 0 then answer.run else None
 
 -- The source was read, and the writing of the answer failed.
 pub record ReadFailed (words : Words) (left left' taken taken' : Option (List ℕ)) (run : Option Record) : Type 0 where
-  pub built : is_mode_built words.mode ≡ true
+  pub replays : words.mode ≡ Replay
   pub bytes : List ℕ
   pub read : ReadWhole read_limit left left' bytes
   pub written : WroteFront taken taken' (answer_to words bytes).text
@@ -97,9 +108,16 @@ pub record NotBuiltFailed (words : Words) (left left' taken taken' : Option (Lis
   pub unbuilt : is_mode_built words.mode ≡ false
   pub refused : RefusalFailed not_built_line left left' taken taken' run
 
+-- A grid was run, and the writing of the answer failed.
+pub record GridFailed (words : Words) (taken taken' : Option (List ℕ)) (run : Option Record) : Type 0 where
+  pub gen : words.mode ≡ Gen
+  pub written : WroteFront taken taken' (answer_grid words.size).text
+  pub recorded : run ≡ finished_run (answer_grid words.size)
+
 abbrev pub AnswerFailed : Words → Option (List ℕ) → Option (List ℕ) → Option (List ℕ) → Option (List ℕ) → Option Record → Type 0
 AnswerFailed words left left' taken taken' run =
-    ReadFailed words left left' taken taken' run ⊎ NotBuiltFailed words left left' taken taken' run
+    ReadFailed words left left' taken taken' run
+    ⊎ (NotBuiltFailed words left left' taken taken' run ⊎ ((left' ≡ left) × GridFailed words taken taken' run))
 
 -- the record is that of the run that the laboratory asks for, which settled every phase: by round robin, or under the
 -- turns that it gives
@@ -127,6 +145,13 @@ pub record IsReplay (lab : Laboratory) (trace : Bool) (text : List ℕ) (run : O
   pub answers : RecordAnswers lab done
   pub agrees : RecordAgrees lab done
   pub report : text ≡ report_of done lab trace
+
+-- What status 0 says of the run of a grid: all that it says of a replay, of the record of that run. The text is its summary.
+pub record IsSummed (size : ℕ) (text : List ℕ) (run : Option Record) : Type 0 where
+  pub done : Record
+  pub recorded : run ≡ Some done
+  pub replay : IsReplay (grid_of size) false (report_of done (grid_of size) false) run
+  pub summed : text ≡ summary done (grid_of size) size
 
 -- Round robin left the phase with this number unsettled. The record is that of the run as far as it came, and what it tells
 -- holds all the same.
@@ -190,6 +215,29 @@ pub record AnsweredUnsettled (words : Words) (left left' taken taken' : Option (
   pub text : List ℕ
   pub ran : RunAnswered words left left' taken taken' lab text
   pub unsettled : IsUnsettledRun lab text run
+
+-- What status 0 says of a whole call in mode gen: the text is the summary of the run of a grid.
+pub record GridDone (words : Words) (taken taken' : Option (List ℕ)) (run : Option Record) : Type 0 where
+  pub gen : words.mode ≡ Gen
+  pub text : List ℕ
+  pub written : WroteWhole taken taken' text
+  pub summed : IsSummed words.size text run
+
+-- What status 4 says of a whole call in mode gen: the text names the phase of the grid's run that is unsettled.
+pub record GridUnsettled (words : Words) (taken taken' : Option (List ℕ)) (run : Option Record) : Type 0 where
+  pub gen : words.mode ≡ Gen
+  pub text : List ℕ
+  pub written : WroteWhole taken taken' text
+  pub unsettled : IsUnsettledRun (grid_of words.size) text run
+
+-- status 0 of a whole call, in either mode; in mode gen nothing is read
+abbrev pub AnsweredDone : Words → Option (List ℕ) → Option (List ℕ) → Option (List ℕ) → Option (List ℕ) → Option Record → Type 0
+AnsweredDone words left left' taken taken' run = Done words left left' taken taken' run ⊎ ((left' ≡ left) × GridDone words taken taken' run)
+
+-- status 4 of a whole call, in either mode
+abbrev pub LeftUnsettled : Words → Option (List ℕ) → Option (List ℕ) → Option (List ℕ) → Option (List ℕ) → Option Record → Type 0
+LeftUnsettled words left left' taken taken' run =
+    AnsweredUnsettled words left left' taken taken' run ⊎ ((left' ≡ left) × GridUnsettled words taken taken' run)
 
 -- What status 8 says of the whole call: the text names the bad one of the turns that the scenario gives.
 pub record AnsweredBadTurn (words : Words) (left left' taken taken' : Option (List ℕ)) (run : Option Record) : Type 0 where

@@ -8,7 +8,7 @@ use net_laboratory::Scenario;
 pub fn is_mode_built(mode: Mode) -> bool
     ensures { result ≡ is_mode_built mode }
 {
-    matches!(mode, Mode::Replay)
+    matches!(mode, Mode::Replay | Mode::Gen)
 }
 
 /// The program runs the scenario in the mode that was asked for. It takes no memory.

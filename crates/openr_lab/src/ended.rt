@@ -1,3 +1,5 @@
+ghost use Rattle.std.specs.Prelude.{◌≡◌, None};
+
 use net_record::Record;
 
 /// How a call of the program ended.
@@ -9,4 +11,12 @@ pub struct Ended {
     pub status: u8,
     /// The record of the run: at 0, at 4 of a run by round robin as far as it came, and at 7 after a finished run.
     pub run: Option<Record>,
+}
+
+/// An end without a record.
+pub fn end_with(status: u8) -> Ended
+    ensures status { result.status ≡ status }
+    ensures run { result.run ≡ None }
+{
+    Ended { status, run: None }
 }

@@ -5,15 +5,18 @@
 //! text is made whole before its first byte goes out. Its contract is the theorem on the whole program: what each
 //! status says of the words, of the bytes read, of the bytes written and of the record (`specs/Ends.antt`, over
 //! `answer_to` of `specs/Answer.antt`). What the program doesn't run yet is said in one place (`specs/Built.antt`).
-//! `main` makes the real source and sink and ends with the status.
+//! In mode gen it
+//! reads nothing, and runs a grid of the size that the words ask for. `main` makes the real source and sink and ends with the
+//! status.
 //!
 //! The files: `built` (what is run so far), `texts` (the texts of the statuses other than 0), `streams` (reading and
-//! writing whole), `replay` (the answer to the bytes), `top` (the calls).
+//! writing whole), `replay` (the answer to the bytes), `grids` (the answer of mode gen), `top` (the calls).
 #![tactic(auto)]
 
 mod answer;
 mod built;
 mod ended;
+mod grids;
 mod replay;
 mod streams;
 #[cfg(test)]
